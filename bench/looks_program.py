@@ -70,12 +70,11 @@ struct Looked {
     processor: Duration,
 }
 
-/// The end of a machine: the receipt's point, the watcher's after that, whether the watcher is late, and the machine's.
+/// The end of a machine: the receipt's point, that of a look once all turns are had, and the machine's.
 #[derive(Clone, Copy)]
 struct Ended {
     told: u32,
     seen: u32,
-    late: bool,
     point: u32,
 }
 
@@ -166,22 +165,19 @@ impl Timed {
         }
     }
 
-    /// The watcher learns what was published last, looks once more after the end, and both are let go.
+    /// The watcher looks once more, and both are let go.
     fn end<T: Wait>(self, rt: &T, watcher: Watcher) -> Ended {
         let Timed {
             mut monitored,
             nodes: _,
         } = self;
         let mut watcher = watcher;
-        let receipt = monitored.receipt();
-        let told = receipt.last().point();
-        watcher.learn(receipt);
-        let machine = monitored.end(rt);
+        let told = monitored.receipt().last().point();
         let seen = watcher.look().point();
+        let machine = monitored.end(rt);
         Ended {
             told,
             seen,
-            late: watcher.is_late(),
             point: machine.recovered().point(),
         }
     }
@@ -349,9 +345,8 @@ fn tell_turned<T: Print>(rt: &T, turned: &Turned) -> io::Result<()> {
 
 fn tell_looked<T: Print>(rt: &T, looked: &Looked, ended: &Ended) -> io::Result<()> {
     let processor = looked.processor.as_nanos();
-    let late = u8::from(ended.late);
     print!(rt; "looked {} {} {} {processor} ", looked.looks, looked.point, looked.falls)?;
-    println!(rt; "{} {} {late} {}", ended.told, ended.seen, ended.point)
+    println!(rt; "{} {} {}", ended.told, ended.seen, ended.point)
 }
 
 /// A run of one machine.

@@ -87,9 +87,9 @@ fn write_on(
     requires few { length events.now ≤ EVENTS }
     ensures { OnOk result (note.new ≡ notes_on note.old image config events.now gives_nodes) }
 {
-    let mut machine = Machine::new(alloc, image, config)?;
-    machine.reserve(events.len() as u32)?;
+    let mut machine = Machine::with_room(alloc, image, config, events.len() as u32)?;
     let refusals = refusals_of(&mut machine, events);
+    drop(machine);
     write_refusals(alloc, note, events.len() as u64, refusals)?;
     if !gives_nodes && names_fewer(config.nodes, events) {
         write_default(note, config.nodes)?;

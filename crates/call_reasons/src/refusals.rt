@@ -10,7 +10,7 @@ use sn_base::{Answer, Event};
 use sn_machine::Machine;
 
 /// A refused event: its place from 1, and its answer.
-#[derive(Clone, Copy, PartialEq, Eq, Debug)]
+#[derive(Clone, Copy)]
 pub struct Refused {
     pub place: u64,
     pub event: Event,
@@ -18,7 +18,7 @@ pub struct Refused {
 }
 
 /// How many events were refused, and the first of them.
-#[derive(Clone, Copy, PartialEq, Eq, Debug)]
+#[derive(Clone, Copy)]
 pub struct Refusals {
     pub count: u64,
     pub first: Option<Refused>,

@@ -1,22 +1,17 @@
--- A command's arguments, added one after another.
-use Rattle.std.proofs.Common.{◌≡◌, ◌∙◌, ◌+◌, ◌<◌, ℕ, zero, suc, refl, ap, arith, add-one, List, [], ◌∷◌, map, take, length, slice_index_or}
-use Rattle.std.proofs.Common.{Bor}
-use Rattle.clap.specs.Words.{App, Text, with_rule}
-use Rattle.command_words.specs.Command.{rule_by, with_args}
-use Rattle.command_words.specs.declared.command.Kind.{Kind}
+-- A command's arguments, and the table's commands, added one after another.
+use Rattle.std.proofs.Common.{◌≡◌, ◌∙◌, ◌+◌, ◌<◌, ℕ, zero, suc, refl, ap, arith, add-one, List, [], ◌∷◌, map, take, length, slice_index_or, fold}
+use Rattle.clap.specs.Words.{App}
 
-module _ (kind : Kind) where
-  abbrev upto : ℕ → List (Bor Text) → App → App
-  upto n names app = with_args kind (map (λ name. name.now) (take n names)) app
+-- a list folded over what is seen of its items: one item more
+module _ {T S : Type 0} (f : App → S → App) (see : T → S) where
+  abbrev upto : ℕ → List T → App → App
+  upto n items app = fold f app (map see (take n items))
 
-  next : (names : List (Bor Text)) (i : ℕ) (d : Bor Text) (app : App) → i < length names
-      → upto (suc i) names app ≡ with_rule (upto i names app) (rule_by kind (slice_index_or names i d).now)
+  next : (items : List T) (i : ℕ) (d : T) (app : App) → i < length items → upto (suc i) items app ≡ f (upto i items app) (see (slice_index_or items i d))
   next [] i d app lt = absurd (omega arith)
   next (x ∷ xs) zero d app lt = refl
-  next (x ∷ xs) (suc i) d app lt = next xs i d (with_rule app (rule_by kind x.now)) (omega arith)
+  next (x ∷ xs) (suc i) d app lt = next xs i d (f app (see x)) (omega arith)
 
-pub with_args-next : (kind : Kind) (names : List (Bor Text)) (i : ℕ) (d : Bor Text) (app : App) → i < length names
-    → with_args kind (map (λ name. name.now) (take (i + 1) names)) app
-    ≡ with_rule (with_args kind (map (λ name. name.now) (take i names)) app) (rule_by kind (slice_index_or names i d).now)
-with_args-next kind names i d app lt =
-    ap (λ n. with_args kind (map (λ name. name.now) (take n names)) app) (add-one i) ∙ next kind names i d app lt
+  pub fold-next : (items : List T) (i : ℕ) (d : T) (app : App) → i < length items
+      → upto (i + 1) items app ≡ f (upto i items app) (see (slice_index_or items i d))
+  fold-next items i d app lt = ap (λ n. upto n items app) (add-one i) ∙ next items i d app lt

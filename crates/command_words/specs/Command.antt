@@ -1,9 +1,16 @@
 -- The program's command line, as clap has it: a table with one row a command.
-use Rattle.std.specs.Prelude.{true, Some, List, [], ◌∷◌, codes, fold}
+use Rattle.std.specs.Prelude.{true, Some, List, [], ◌∷◌, codes, fold, map}
 use Rattle.clap.specs.Words.{App, Rule, Text, new_app, new_rule, with_rule, with_subcommand}
+use Rattle.clap.specs.declared.builder.ArgAction.{ArgAction}
 use Rattle.clap.specs.declared.builder.ArgAction.TheVariants.{Set, SetTrue}
 use Rattle.command_words.specs.declared.command.Kind.{Kind}
+use Rattle.command_words.specs.declared.command.Row.{Row}
 use Rattle.command_words.specs.declared.command.Kind.TheVariants as kind
+
+-- what it does where it stands: a flag says true, the others take a value
+abbrev pub action_of : Kind → ArgAction
+action_of kind.Flag = SetTrue
+action_of _ = Set
 
 -- a word that must be there; `--name value` or `--name=value`; `--name`
 abbrev pub rule_by : Kind → Text → Rule
@@ -17,6 +24,11 @@ with_args kind names app = fold (λ a name. with_rule a (rule_by kind name)) app
 -- a command by its name, with its words, its options and its flags
 abbrev pub command_app : Text → List Text → List Text → List Text → App
 command_app name words options flags = with_args kind.Flag flags (with_args kind.Option options (with_args kind.Word words (new_app name)))
+
+-- a command by its row of the program's table
+abbrev pub row_app : Row → App
+row_app row =
+    command_app row.name.now (map (λ name. name.now) row.words.now) (map (λ name. name.now) row.options.now) (map (λ name. name.now) row.flags.now)
 
 abbrev pub replay_app : App
 replay_app = command_app (codes "replay") (codes "program" ∷ codes "script" ∷ [])
@@ -74,7 +86,9 @@ named_app = record (new_app (codes "safetynet")) {
 abbrev pub with_command : App → App → App
 with_command app command = with_subcommand app command.top
 
+abbrev pub command_apps : List App
+command_apps =
+    replay_app ∷ drive_app ∷ roll_app ∷ save_app ∷ resume_app ∷ run_app ∷ monitor_app ∷ check_app ∷ judge_app ∷ demo_app ∷ asm_app ∷ dis_app ∷ []
+
 abbrev pub the_app : App
-the_app =
-    fold with_command named_app
-    (replay_app ∷ drive_app ∷ roll_app ∷ save_app ∷ resume_app ∷ run_app ∷ monitor_app ∷ check_app ∷ judge_app ∷ demo_app ∷ asm_app ∷ dis_app ∷ [])
+the_app = fold with_command named_app command_apps

@@ -184,6 +184,15 @@ check_of entries =
 abbrev pub demo_of : List Row → Option ℕ
 demo_of entries = option_and_then demo_size (first_of (codes "size") entries)
 
+-- the request of a command that judges or translates what a file has, or that demonstrates, by its name and its entries
+abbrev pub other_request_of : Text → List Row → Option Request
+other_request_of command entries =
+    if bytes_eq command (codes "check") then check_of entries else
+    if bytes_eq command (codes "judge") then option_map (λ accesses. Judge accesses) (first_of (codes "accesses") entries) else
+    if bytes_eq command (codes "demo") then option_map (λ size. Demo size) (demo_of entries) else
+    if bytes_eq command (codes "asm") then option_map (λ text. Assemble text) (first_of (codes "text") entries) else
+    if bytes_eq command (codes "dis") then option_map (λ program. Disassemble program) (first_of (codes "program") entries) else None
+
 -- the request of a command by its name and its entries
 abbrev pub request_of : Text → List Row → Option Request
 request_of command entries =
@@ -193,12 +202,7 @@ request_of command entries =
     if bytes_eq command (codes "save") then save_of entries else
     if bytes_eq command (codes "resume") then resume_of entries else
     if bytes_eq command (codes "run") then run_of entries else
-    if bytes_eq command (codes "monitor") then monitor_of entries else
-    if bytes_eq command (codes "check") then check_of entries else
-    if bytes_eq command (codes "judge") then option_map (λ accesses. Judge accesses) (first_of (codes "accesses") entries) else
-    if bytes_eq command (codes "demo") then option_map (λ size. Demo size) (demo_of entries) else
-    if bytes_eq command (codes "asm") then option_map (λ text. Assemble text) (first_of (codes "text") entries) else
-    if bytes_eq command (codes "dis") then option_map (λ program. Disassemble program) (first_of (codes "program") entries) else None
+    if bytes_eq command (codes "monitor") then monitor_of entries else other_request_of command entries
 
 -- the request of the words: none where they aren't a command's, or where the text of an entry breaks its rule
 abbrev pub ask_of : List Text → Option Request

@@ -1,9 +1,8 @@
-//! The table of commands, as clap wants it: a function a command, and a line for it in `command`.
+//! The table of commands, as clap wants it: a row a command.
 ghost use Rattle.std.specs.Prelude.{◌≡◌, ◌↔◌, IfOk, IfErr, false, true, map, string_bytes};
 ghost use Rattle.clap.specs.Words.{App, app_of, rule_of, with_rule, takes, kind_of, subcommand_of, subcommand_rows_of};
 ghost use Rattle.clap.specs.declared.builder.command.Command.TheViews.{out-Command as fields_of};
-ghost use Rattle.command_words.specs.Command.{rule_by, with_args, command_app, replay_app, drive_app, roll_app, save_app, resume_app};
-ghost use Rattle.command_words.specs.Command.{run_app, monitor_app, check_app, judge_app, demo_app, asm_app, dis_app, named_app, with_command, the_app};
+ghost use Rattle.command_words.specs.Command.{action_of, rule_by, with_args, row_app, command_apps, named_app, with_command, the_app};
 
 use crate::request::WordsFault;
 use clap::error::ErrorKind;
@@ -18,15 +17,138 @@ pub enum Kind {
     Flag,
 }
 
+/// A command's name, and those of its words, of its options and of its flags.
+pub struct Row {
+    name: &'static str,
+    words: &'static [&'static str],
+    options: &'static [&'static str],
+    flags: &'static [&'static str],
+}
+
+const COMMANDS: &[Row] = &[
+    Row {
+        name: "replay",
+        words: &["program", "script"],
+        options: &["nodes", "sets", "ways", "log", "watch", "only"],
+        flags: &["trace", "states", "statistics", "accesses"],
+    },
+    Row {
+        name: "drive",
+        words: &["program"],
+        options: &["nodes", "sets", "ways", "log", "watch"],
+        flags: &["states"],
+    },
+    Row {
+        name: "roll",
+        words: &["program", "script", "control"],
+        options: &["nodes", "sets", "ways", "log", "watch"],
+        flags: &[],
+    },
+    Row {
+        name: "save",
+        words: &["program", "script"],
+        options: &["nodes", "sets", "ways", "log"],
+        flags: &[],
+    },
+    Row {
+        name: "resume",
+        words: &["program", "save", "script"],
+        options: &["watch"],
+        flags: &[],
+    },
+    Row {
+        name: "run",
+        words: &["program"],
+        options: &[
+            "order",
+            "seeds",
+            "nodes",
+            "sets",
+            "ways",
+            "log",
+            "watch",
+            "interval",
+            "wait",
+            "lose-every",
+            "kill",
+            "budget",
+            "seed",
+        ],
+        flags: &["trace", "journal", "accesses", "statistics"],
+    },
+    Row {
+        name: "monitor",
+        words: &["program"],
+        options: &[
+            "nodes",
+            "sets",
+            "ways",
+            "log",
+            "watch",
+            "interval",
+            "wait",
+            "lose-every",
+            "kill",
+            "budget",
+            "seed",
+        ],
+        flags: &[],
+    },
+    Row {
+        name: "check",
+        words: &["program", "trace"],
+        options: &["nodes"],
+        flags: &[],
+    },
+    Row {
+        name: "judge",
+        words: &["accesses"],
+        options: &[],
+        flags: &[],
+    },
+    Row {
+        name: "demo",
+        words: &["size"],
+        options: &[],
+        flags: &[],
+    },
+    Row {
+        name: "asm",
+        words: &["text"],
+        options: &[],
+        flags: &[],
+    },
+    Row {
+        name: "dis",
+        words: &["program"],
+        options: &[],
+        flags: &[],
+    },
+];
+
+fn commands() -> &'static [Row]
+    ensures { map row_app result.now ≡ command_apps }
+{
+    COMMANDS
+}
+
+fn action_of(kind: Kind) -> ArgAction
+    ensures { result ≡ action_of kind }
+{
+    match kind {
+        Kind::Word | Kind::Option => ArgAction::Set,
+        Kind::Flag => ArgAction::SetTrue,
+    }
+}
+
 fn arg_by<'a>(alloc: Global, kind: Kind, name: &'a str) -> Arg<'a>
     ensures rule { rule_of result ≡ rule_by kind name.entry.now }
     ensures local { result.global ≡ false }
 {
-    let arg = Arg::new(alloc, name);
+    let arg = Arg::new(alloc, name).action(action_of(kind));
     match kind {
-        Kind::Word => arg.required(true).action(ArgAction::Set),
-        Kind::Option => arg.long(name).action(ArgAction::Set),
-        Kind::Flag => arg.long(name).action(ArgAction::SetTrue),
+        Kind::Word => arg.required(true),
+        Kind::Option | Kind::Flag => arg.long(name),
     }
 }
 
@@ -39,178 +161,48 @@ fn with_arg<'a>(command: Command<'a>, arg: Arg<'a>) -> Result<Command<'a>, Alloc
     command.arg(arg)
 }
 
+// A command with one argument more, where there is memory for both.
+fn with_next<'a>(
+    alloc: Global,
+    command: Result<Command<'a>, AllocError>,
+    kind: Kind,
+    name: &'a str,
+) -> Result<Command<'a>, AllocError>
+    requires alone { IfOk command (λ c. (fields_of c).has_globals ≡ false) }
+    ensures app { (app : App) → IfOk command.entry (λ c. app_of c ≡ app) → IfOk result (λ c. app_of c ≡ with_rule app (rule_by kind name.entry.now)) }
+    ensures alone { IfOk result (λ c. (fields_of c).has_globals ≡ false) }
+{
+    match command {
+        Ok(command) => with_arg(command, arg_by(alloc, kind, name)),
+        Err(error) => Err(error),
+    }
+}
+
 fn with_args<'a>(
     alloc: Global,
-    mut command: Command<'a>,
+    mut command: Result<Command<'a>, AllocError>,
     kind: Kind,
     names: &[&'a str],
 ) -> Result<Command<'a>, AllocError>
-    requires alone { (fields_of command).has_globals ≡ false }
-    ensures app { IfOk result (λ c. app_of c ≡ with_args kind (map (λ name. name.now) names.now) (app_of command.entry)) }
+    requires alone { IfOk command (λ c. (fields_of c).has_globals ≡ false) }
+    ensures app { (app : App) → IfOk command.entry (λ c. app_of c ≡ app) → IfOk result
+        (λ c. app_of c ≡ with_args kind (map (λ name. name.now) names.now) app) }
     ensures alone { IfOk result (λ c. (fields_of c).has_globals ≡ false) }
 {
     'names: for name in names {
-        command = with_arg(command, arg_by(alloc, kind, name))?;
+        command = with_next(alloc, command, kind, name);
     }
-    Ok(command)
+    command
 }
 
-fn command_by<'a>(
-    alloc: Global,
-    name: &'a str,
-    words: &[&'a str],
-    options: &[&'a str],
-    flags: &[&'a str],
-) -> Result<Command<'a>, AllocError>
-    ensures app { IfOk result
-        (λ c. app_of c ≡ command_app name.entry.now (map (λ name. name.now) words.now) (map (λ name. name.now) options.now)
-        (map (λ name. name.now) flags.now)) }
+fn command_by<'a>(alloc: Global, row: &Row) -> Result<Command<'a>, AllocError>
+    ensures app { IfOk result (λ c. app_of c ≡ row_app row.now) }
     ensures alone { IfOk result (λ c. (fields_of c).has_globals ≡ false) }
 {
-    let command = Command::new(alloc, name);
-    let command = with_args(alloc, command, Kind::Word, words)?;
-    let command = with_args(alloc, command, Kind::Option, options)?;
-    with_args(alloc, command, Kind::Flag, flags)
-}
-
-fn replay<'a>(alloc: Global) -> Result<Command<'a>, AllocError>
-    ensures app { IfOk result (λ c. app_of c ≡ replay_app) }
-    ensures alone { IfOk result (λ c. (fields_of c).has_globals ≡ false) }
-{
-    let options = ["nodes", "sets", "ways", "log", "watch", "only"];
-    command_by(
-        alloc,
-        "replay",
-        &["program", "script"],
-        &options,
-        &["trace", "states", "statistics", "accesses"],
-    )
-}
-
-fn drive<'a>(alloc: Global) -> Result<Command<'a>, AllocError>
-    ensures app { IfOk result (λ c. app_of c ≡ drive_app) }
-    ensures alone { IfOk result (λ c. (fields_of c).has_globals ≡ false) }
-{
-    let options = ["nodes", "sets", "ways", "log", "watch"];
-    command_by(alloc, "drive", &["program"], &options, &["states"])
-}
-
-fn roll<'a>(alloc: Global) -> Result<Command<'a>, AllocError>
-    ensures app { IfOk result (λ c. app_of c ≡ roll_app) }
-    ensures alone { IfOk result (λ c. (fields_of c).has_globals ≡ false) }
-{
-    let options = ["nodes", "sets", "ways", "log", "watch"];
-    command_by(
-        alloc,
-        "roll",
-        &["program", "script", "control"],
-        &options,
-        &[],
-    )
-}
-
-fn save<'a>(alloc: Global) -> Result<Command<'a>, AllocError>
-    ensures app { IfOk result (λ c. app_of c ≡ save_app) }
-    ensures alone { IfOk result (λ c. (fields_of c).has_globals ≡ false) }
-{
-    let options = ["nodes", "sets", "ways", "log"];
-    command_by(alloc, "save", &["program", "script"], &options, &[])
-}
-
-fn resume<'a>(alloc: Global) -> Result<Command<'a>, AllocError>
-    ensures app { IfOk result (λ c. app_of c ≡ resume_app) }
-    ensures alone { IfOk result (λ c. (fields_of c).has_globals ≡ false) }
-{
-    command_by(
-        alloc,
-        "resume",
-        &["program", "save", "script"],
-        &["watch"],
-        &[],
-    )
-}
-
-fn run<'a>(alloc: Global) -> Result<Command<'a>, AllocError>
-    ensures app { IfOk result (λ c. app_of c ≡ run_app) }
-    ensures alone { IfOk result (λ c. (fields_of c).has_globals ≡ false) }
-{
-    let options = [
-        "order",
-        "seeds",
-        "nodes",
-        "sets",
-        "ways",
-        "log",
-        "watch",
-        "interval",
-        "wait",
-        "lose-every",
-        "kill",
-        "budget",
-        "seed",
-    ];
-    command_by(
-        alloc,
-        "run",
-        &["program"],
-        &options,
-        &["trace", "journal", "accesses", "statistics"],
-    )
-}
-
-fn monitor<'a>(alloc: Global) -> Result<Command<'a>, AllocError>
-    ensures app { IfOk result (λ c. app_of c ≡ monitor_app) }
-    ensures alone { IfOk result (λ c. (fields_of c).has_globals ≡ false) }
-{
-    let options = [
-        "nodes",
-        "sets",
-        "ways",
-        "log",
-        "watch",
-        "interval",
-        "wait",
-        "lose-every",
-        "kill",
-        "budget",
-        "seed",
-    ];
-    command_by(alloc, "monitor", &["program"], &options, &[])
-}
-
-fn check<'a>(alloc: Global) -> Result<Command<'a>, AllocError>
-    ensures app { IfOk result (λ c. app_of c ≡ check_app) }
-    ensures alone { IfOk result (λ c. (fields_of c).has_globals ≡ false) }
-{
-    command_by(alloc, "check", &["program", "trace"], &["nodes"], &[])
-}
-
-fn judge<'a>(alloc: Global) -> Result<Command<'a>, AllocError>
-    ensures app { IfOk result (λ c. app_of c ≡ judge_app) }
-    ensures alone { IfOk result (λ c. (fields_of c).has_globals ≡ false) }
-{
-    command_by(alloc, "judge", &["accesses"], &[], &[])
-}
-
-fn demo<'a>(alloc: Global) -> Result<Command<'a>, AllocError>
-    ensures app { IfOk result (λ c. app_of c ≡ demo_app) }
-    ensures alone { IfOk result (λ c. (fields_of c).has_globals ≡ false) }
-{
-    command_by(alloc, "demo", &["size"], &[], &[])
-}
-
-fn asm<'a>(alloc: Global) -> Result<Command<'a>, AllocError>
-    ensures app { IfOk result (λ c. app_of c ≡ asm_app) }
-    ensures alone { IfOk result (λ c. (fields_of c).has_globals ≡ false) }
-{
-    command_by(alloc, "asm", &["text"], &[], &[])
-}
-
-fn dis<'a>(alloc: Global) -> Result<Command<'a>, AllocError>
-    ensures app { IfOk result (λ c. app_of c ≡ dis_app) }
-    ensures alone { IfOk result (λ c. (fields_of c).has_globals ≡ false) }
-{
-    command_by(alloc, "dis", &["program"], &[], &[])
+    let command = Ok(Command::new(alloc, row.name));
+    let command = with_args(alloc, command, Kind::Word, row.words);
+    let command = with_args(alloc, command, Kind::Option, row.options);
+    with_args(alloc, command, Kind::Flag, row.flags)
 }
 
 fn named<'a>(alloc: Global) -> Command<'a>
@@ -241,38 +233,28 @@ fn added<'a>(
 }
 
 // A table with one command more, where there is memory for both.
-fn with_command<'a>(
+fn with_row<'a>(
+    alloc: Global,
     table: Result<Command<'a>, AllocError>,
-    other: Result<Command<'a>, AllocError>,
+    row: &Row,
 ) -> Result<Command<'a>, AllocError>
-    requires alone { IfOk other (λ c. (fields_of c).has_globals ≡ false) }
-    ensures { (rows row : App) → IfOk table.entry (λ c. app_of c ≡ rows) → IfOk other.entry (λ c. app_of c ≡ row)
-        → IfOk result (λ c. app_of c ≡ with_command rows row) }
+    ensures { (rows : App) → IfOk table.entry (λ c. app_of c ≡ rows) → IfOk result (λ c. app_of c ≡ with_command rows (row_app row.now)) }
 {
     match table {
-        Ok(table) => added(table, other),
-        Err(error) => {
-            drop(other);
-            Err(error)
-        }
+        Ok(table) => added(table, command_by(alloc, row)),
+        Err(error) => Err(error),
     }
 }
 
 fn command<'a>(alloc: Global) -> Result<Command<'a>, AllocError>
     ensures { IfOk result (λ c. app_of c ≡ the_app) }
 {
-    let table = with_command(Ok(named(alloc)), replay(alloc));
-    let table = with_command(table, drive(alloc));
-    let table = with_command(table, roll(alloc));
-    let table = with_command(table, save(alloc));
-    let table = with_command(table, resume(alloc));
-    let table = with_command(table, run(alloc));
-    let table = with_command(table, monitor(alloc));
-    let table = with_command(table, check(alloc));
-    let table = with_command(table, judge(alloc));
-    let table = with_command(table, demo(alloc));
-    let table = with_command(table, asm(alloc));
-    with_command(table, dis(alloc))
+    let rows = commands();
+    let mut table = Ok(named(alloc));
+    'rows: for row in rows {
+        table = with_row(alloc, table, row);
+    }
+    table
 }
 
 fn parse<'a>(alloc: Global, words: &'a [String]) -> Result<ArgMatches<'a>, Error>

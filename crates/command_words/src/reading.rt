@@ -1,15 +1,14 @@
 //! The request of the words: the entries' texts are read, and the names are copied.
-ghost use Rattle.std.specs.Prelude.{◌≡◌, ◌≤◌, Bool, IfOk, IfErr, true, Some, None, map, string_bytes};
-ghost use Rattle.sn_base.specs.Config.{lies_in, config_fits};
+ghost use Rattle.std.specs.Prelude.{◌≡◌, ◌≤◌, Bool, IfOk, IfErr, true, Some, None, codes, map, option_map, string_bytes};
+ghost use Rattle.sn_base.specs.Config.{config_fits};
 ghost use Rattle.option_values.specs.Runs.{run_rules_fit};
+ghost use Rattle.option_values.specs.Values.{watch_by};
 ghost use Rattle.clap.specs.Words.{found_of, rows_of, first_of};
-ghost use Rattle.command_words.specs.Request.{ask_of, as_request, request_of, config_of, replay_of, drive_of, roll_of, run_rules_of, run_report_of};
+ghost use Rattle.command_words.specs.Request.{ask_of, as_request, request_of, other_request_of, config_of, replay_of, drive_of, roll_of, save_of, resume_of, run_of};
+ghost use Rattle.command_words.specs.Request.{monitor_of, check_of, demo_of, Judge, Demo, Assemble, Disassemble, run_rules_of, run_report_of};
 ghost use Rattle.command_words.specs.Request.{replay_report_of, report_fits, drive_report_of};
 ghost use Rattle.command_words.specs.Request.{run_order_of, is_ordered, is_summary, run_scope_by, run_scope_of, scope_fits};
-ghost use Rattle.command_words.specs.Request.{run_of, monitor_of, check_of, demo_of, as_replay, as_drive, as_roll, as_run, as_monitor, as_check};
-ghost use Rattle.command_words.specs.Request.{save_of, resume_of, as_save, as_resume};
 ghost use Rattle.command_words.specs.Request.{watch_fits, request_fits};
-ghost use Rattle.sn_base.specs.declared.limits.TheConstants.{EVENTS};
 
 use crate::command::entries_of;
 use crate::entries::{command_of, has_flag, text_of};
@@ -49,6 +48,15 @@ fn config(entries: &ArgMatches<'_>) -> Result<Config, WordsFault>
     sizes.config().ok_or(WordsFault::Usage)
 }
 
+// The address of the word that is to be watched.
+fn watch(entries: &ArgMatches<'_>) -> Result<Option<u32>, WordsFault>
+    ensures ok { IfOk result (λ watch. watch_by (first_of (codes "watch") (rows_of (found_of entries.now))) ≡ Some watch) }
+    ensures usage { IfErr result (λ fault. (fault ≡ WordsFault.Usage) × (watch_by (first_of (codes "watch") (rows_of (found_of entries.now))) ≡ None)) }
+    ensures fits { IfOk result (λ watch. watch_fits watch ≡ true) }
+{
+    read_watch(text_of(entries, "watch")).ok_or(WordsFault::Usage)
+}
+
 fn replay_report(entries: &ArgMatches<'_>) -> Result<ReplayReport, WordsFault>
     ensures ok { IfOk result (λ report. replay_report_of (rows_of (found_of entries.now)) ≡ Some report) }
     ensures usage { IfErr result (λ fault. (fault ≡ WordsFault.Usage) × (replay_report_of (rows_of (found_of entries.now)) ≡ None)) }
@@ -71,20 +79,18 @@ fn replay_report(entries: &ArgMatches<'_>) -> Result<ReplayReport, WordsFault>
     }
 }
 
-fn replay(alloc: Global, entries: &ArgMatches<'_>) -> Result<Replay, WordsFault>
-    ensures ok { IfOk result (λ replay. replay_of (rows_of (found_of entries.now)) ≡ Some (as_replay replay)) }
+fn replay(alloc: Global, entries: &ArgMatches<'_>) -> Result<Request, WordsFault>
+    ensures ok { IfOk result (λ request. replay_of (rows_of (found_of entries.now)) ≡ Some (as_request request)) }
     ensures usage { result ≡ Err WordsFault.Usage → replay_of (rows_of (found_of entries.now)) ≡ None }
-    ensures fits { IfOk result (λ replay. config_fits replay.config ≡ true) }
-    ensures shown { IfOk result (λ replay. report_fits replay.report ≡ true) }
-    ensures watched { IfOk result (λ replay. watch_fits replay.watch ≡ true) }
+    ensures fits { IfOk result (λ request. request_fits (as_request request) ≡ true) }
 {
-    Ok(Replay {
+    Ok(Request::Replay(Replay {
         config: config(entries)?,
         report: replay_report(entries)?,
-        watch: read_watch(text_of(entries, "watch")).ok_or(WordsFault::Usage)?,
+        watch: watch(entries)?,
         program: name(alloc, entries, "program")?,
         script: name(alloc, entries, "script")?,
-    })
+    }))
 }
 
 fn drive_report(entries: &ArgMatches<'_>) -> DriveReport
@@ -97,58 +103,56 @@ fn drive_report(entries: &ArgMatches<'_>) -> DriveReport
     }
 }
 
-fn drive(alloc: Global, entries: &ArgMatches<'_>) -> Result<Drive, WordsFault>
-    ensures ok { IfOk result (λ drive. drive_of (rows_of (found_of entries.now)) ≡ Some (as_drive drive)) }
+fn drive(alloc: Global, entries: &ArgMatches<'_>) -> Result<Request, WordsFault>
+    ensures ok { IfOk result (λ request. drive_of (rows_of (found_of entries.now)) ≡ Some (as_request request)) }
     ensures usage { result ≡ Err WordsFault.Usage → drive_of (rows_of (found_of entries.now)) ≡ None }
-    ensures fits { IfOk result (λ drive. config_fits drive.config ≡ true) }
-    ensures watched { IfOk result (λ drive. watch_fits drive.watch ≡ true) }
+    ensures fits { IfOk result (λ request. request_fits (as_request request) ≡ true) }
 {
-    Ok(Drive {
+    Ok(Request::Drive(Drive {
         config: config(entries)?,
         report: drive_report(entries),
-        watch: read_watch(text_of(entries, "watch")).ok_or(WordsFault::Usage)?,
+        watch: watch(entries)?,
         program: name(alloc, entries, "program")?,
-    })
+    }))
 }
 
-fn roll(alloc: Global, entries: &ArgMatches<'_>) -> Result<Roll, WordsFault>
-    ensures ok { IfOk result (λ roll. roll_of (rows_of (found_of entries.now)) ≡ Some (as_roll roll)) }
+fn roll(alloc: Global, entries: &ArgMatches<'_>) -> Result<Request, WordsFault>
+    ensures ok { IfOk result (λ request. roll_of (rows_of (found_of entries.now)) ≡ Some (as_request request)) }
     ensures usage { result ≡ Err WordsFault.Usage → roll_of (rows_of (found_of entries.now)) ≡ None }
-    ensures fits { IfOk result (λ roll. config_fits roll.config ≡ true) }
-    ensures watched { IfOk result (λ roll. watch_fits roll.watch ≡ true) }
+    ensures fits { IfOk result (λ request. request_fits (as_request request) ≡ true) }
 {
-    Ok(Roll {
+    Ok(Request::Roll(Roll {
         config: config(entries)?,
-        watch: read_watch(text_of(entries, "watch")).ok_or(WordsFault::Usage)?,
+        watch: watch(entries)?,
         program: name(alloc, entries, "program")?,
         script: name(alloc, entries, "script")?,
         control: name(alloc, entries, "control")?,
-    })
+    }))
 }
 
-fn save(alloc: Global, entries: &ArgMatches<'_>) -> Result<Save, WordsFault>
-    ensures ok { IfOk result (λ save. save_of (rows_of (found_of entries.now)) ≡ Some (as_save save)) }
+fn save(alloc: Global, entries: &ArgMatches<'_>) -> Result<Request, WordsFault>
+    ensures ok { IfOk result (λ request. save_of (rows_of (found_of entries.now)) ≡ Some (as_request request)) }
     ensures usage { result ≡ Err WordsFault.Usage → save_of (rows_of (found_of entries.now)) ≡ None }
-    ensures fits { IfOk result (λ save. config_fits save.config ≡ true) }
+    ensures fits { IfOk result (λ request. request_fits (as_request request) ≡ true) }
 {
-    Ok(Save {
+    Ok(Request::Save(Save {
         config: config(entries)?,
         program: name(alloc, entries, "program")?,
         script: name(alloc, entries, "script")?,
-    })
+    }))
 }
 
-fn resume(alloc: Global, entries: &ArgMatches<'_>) -> Result<Resume, WordsFault>
-    ensures ok { IfOk result (λ resume. resume_of (rows_of (found_of entries.now)) ≡ Some (as_resume resume)) }
+fn resume(alloc: Global, entries: &ArgMatches<'_>) -> Result<Request, WordsFault>
+    ensures ok { IfOk result (λ request. resume_of (rows_of (found_of entries.now)) ≡ Some (as_request request)) }
     ensures usage { result ≡ Err WordsFault.Usage → resume_of (rows_of (found_of entries.now)) ≡ None }
-    ensures watched { IfOk result (λ resume. watch_fits resume.watch ≡ true) }
+    ensures fits { IfOk result (λ request. request_fits (as_request request) ≡ true) }
 {
-    Ok(Resume {
-        watch: read_watch(text_of(entries, "watch")).ok_or(WordsFault::Usage)?,
+    Ok(Request::Resume(Resume {
+        watch: watch(entries)?,
         program: name(alloc, entries, "program")?,
         save: name(alloc, entries, "save")?,
         script: name(alloc, entries, "script")?,
-    })
+    }))
 }
 
 fn rules(entries: &ArgMatches<'_>, nodes: u8) -> Result<RunRules, WordsFault>
@@ -265,65 +269,107 @@ fn run_scope(
     }
 }
 
-fn run(alloc: Global, entries: &ArgMatches<'_>) -> Result<Run, WordsFault>
-    ensures ok { IfOk result (λ run. run_of (rows_of (found_of entries.now)) ≡ Some (as_run run)) }
+fn run(alloc: Global, entries: &ArgMatches<'_>) -> Result<Request, WordsFault>
+    ensures ok { IfOk result (λ request. run_of (rows_of (found_of entries.now)) ≡ Some (as_request request)) }
     ensures usage { result ≡ Err WordsFault.Usage → run_of (rows_of (found_of entries.now)) ≡ None }
-    ensures fits { IfOk result (λ run. config_fits run.config ≡ true) }
-    ensures ruled { IfOk result (λ run. run_rules_fit run.config.nodes run.rules ≡ true) }
-    ensures scoped { IfOk result (λ run. scope_fits run.scope ≡ true) }
-    ensures watched { IfOk result (λ run. watch_fits run.watch ≡ true) }
+    ensures fits { IfOk result (λ request. request_fits (as_request request) ≡ true) }
 {
     let config = config(entries)?;
     let rules = rules(entries, config.nodes)?;
     let report = run_report(entries)?;
     let order = run_order(entries)?;
     let scope = run_scope(entries, &order, &report)?;
-    Ok(Run {
+    Ok(Request::Run(Run {
         config,
         rules,
         report,
         order,
         scope,
-        watch: read_watch(text_of(entries, "watch")).ok_or(WordsFault::Usage)?,
+        watch: watch(entries)?,
         program: name(alloc, entries, "program")?,
-    })
+    }))
 }
 
-fn monitor(alloc: Global, entries: &ArgMatches<'_>) -> Result<Monitor, WordsFault>
-    ensures ok { IfOk result (λ monitor. monitor_of (rows_of (found_of entries.now)) ≡ Some (as_monitor monitor)) }
+fn monitor(alloc: Global, entries: &ArgMatches<'_>) -> Result<Request, WordsFault>
+    ensures ok { IfOk result (λ request. monitor_of (rows_of (found_of entries.now)) ≡ Some (as_request request)) }
     ensures usage { result ≡ Err WordsFault.Usage → monitor_of (rows_of (found_of entries.now)) ≡ None }
-    ensures fits { IfOk result (λ monitor. config_fits monitor.config ≡ true) }
-    ensures ruled { IfOk result (λ monitor. run_rules_fit monitor.config.nodes monitor.rules ≡ true) }
-    ensures watched { IfOk result (λ monitor. watch_fits monitor.watch ≡ true) }
+    ensures fits { IfOk result (λ request. request_fits (as_request request) ≡ true) }
 {
     let config = config(entries)?;
-    Ok(Monitor {
+    Ok(Request::Monitor(Monitor {
         config,
         rules: rules(entries, config.nodes)?,
-        watch: read_watch(text_of(entries, "watch")).ok_or(WordsFault::Usage)?,
+        watch: watch(entries)?,
         program: name(alloc, entries, "program")?,
-    })
+    }))
 }
 
-fn check(alloc: Global, entries: &ArgMatches<'_>) -> Result<Check, WordsFault>
-    ensures ok { IfOk result (λ check. check_of (rows_of (found_of entries.now)) ≡ Some (as_check check)) }
+fn check(alloc: Global, entries: &ArgMatches<'_>) -> Result<Request, WordsFault>
+    ensures ok { IfOk result (λ request. check_of (rows_of (found_of entries.now)) ≡ Some (as_request request)) }
     ensures usage { result ≡ Err WordsFault.Usage → check_of (rows_of (found_of entries.now)) ≡ None }
-    ensures fits { IfOk result (λ check. lies_in 1 16 check.nodes ≡ true) }
+    ensures fits { IfOk result (λ request. request_fits (as_request request) ≡ true) }
 {
-    Ok(Check {
+    Ok(Request::Check(Check {
         nodes: read_nodes(text_of(entries, "nodes")).ok_or(WordsFault::Usage)?,
         program: name(alloc, entries, "program")?,
         trace: name(alloc, entries, "trace")?,
-    })
+    }))
 }
 
-fn demo(entries: &ArgMatches<'_>) -> Result<u32, WordsFault>
-    ensures ok { IfOk result (λ size. demo_of (rows_of (found_of entries.now)) ≡ Some size) }
-    ensures usage { IfErr result (λ fault. (fault ≡ WordsFault.Usage) × (demo_of (rows_of (found_of entries.now)) ≡ None)) }
-    ensures fits { IfOk result (λ size. lies_in 1 EVENTS size ≡ true) }
+fn judge(alloc: Global, entries: &ArgMatches<'_>) -> Result<Request, WordsFault>
+    ensures ok { IfOk result (λ request. option_map (λ accesses. Judge accesses) (first_of (codes "accesses") (rows_of (found_of entries.now)))
+        ≡ Some (as_request request)) }
+    ensures usage { result ≡ Err WordsFault.Usage → first_of (codes "accesses") (rows_of (found_of entries.now)) ≡ None }
+    ensures fits { IfOk result (λ request. request_fits (as_request request) ≡ true) }
+{
+    Ok(Request::Judge(name(alloc, entries, "accesses")?))
+}
+
+fn demo(entries: &ArgMatches<'_>) -> Result<Request, WordsFault>
+    ensures ok { IfOk result (λ request. option_map (λ size. Demo size) (demo_of (rows_of (found_of entries.now))) ≡ Some (as_request request)) }
+    ensures usage { result ≡ Err WordsFault.Usage → demo_of (rows_of (found_of entries.now)) ≡ None }
+    ensures fits { IfOk result (λ request. request_fits (as_request request) ≡ true) }
 {
     let size = text_of(entries, "size").ok_or(WordsFault::Usage)?;
-    read_demo_size(size).ok_or(WordsFault::Usage)
+    Ok(Request::Demo(read_demo_size(size).ok_or(WordsFault::Usage)?))
+}
+
+fn assemble(alloc: Global, entries: &ArgMatches<'_>) -> Result<Request, WordsFault>
+    ensures ok { IfOk result (λ request. option_map (λ text. Assemble text) (first_of (codes "text") (rows_of (found_of entries.now)))
+        ≡ Some (as_request request)) }
+    ensures usage { result ≡ Err WordsFault.Usage → first_of (codes "text") (rows_of (found_of entries.now)) ≡ None }
+    ensures fits { IfOk result (λ request. request_fits (as_request request) ≡ true) }
+{
+    Ok(Request::Assemble(name(alloc, entries, "text")?))
+}
+
+fn disassemble(alloc: Global, entries: &ArgMatches<'_>) -> Result<Request, WordsFault>
+    ensures ok { IfOk result (λ request. option_map (λ program. Disassemble program) (first_of (codes "program") (rows_of (found_of entries.now)))
+        ≡ Some (as_request request)) }
+    ensures usage { result ≡ Err WordsFault.Usage → first_of (codes "program") (rows_of (found_of entries.now)) ≡ None }
+    ensures fits { IfOk result (λ request. request_fits (as_request request) ≡ true) }
+{
+    Ok(Request::Disassemble(name(alloc, entries, "program")?))
+}
+
+// The request of a command that judges or translates what a file has, or that demonstrates.
+fn other_request(
+    alloc: Global,
+    command: &str,
+    entries: &ArgMatches<'_>,
+) -> Result<Request, WordsFault>
+    ensures ok { IfOk result (λ request. other_request_of command.now (rows_of (found_of entries.now)) ≡ Some (as_request request)) }
+    ensures usage { result ≡ Err WordsFault.Usage → other_request_of command.now (rows_of (found_of entries.now)) ≡ None }
+    ensures fits { IfOk result (λ request. request_fits (as_request request) ≡ true) }
+{
+    match command {
+        "check" => check(alloc, entries),
+        "judge" => judge(alloc, entries),
+        "demo" => demo(entries),
+        "asm" => assemble(alloc, entries),
+        "dis" => disassemble(alloc, entries),
+        _ => Err(WordsFault::Usage),
+    }
 }
 
 fn request(alloc: Global, command: &str, entries: &ArgMatches<'_>) -> Result<Request, WordsFault>
@@ -332,19 +378,14 @@ fn request(alloc: Global, command: &str, entries: &ArgMatches<'_>) -> Result<Req
     ensures fits { IfOk result (λ request. request_fits (as_request request) ≡ true) }
 {
     match command {
-        "replay" => Ok(Request::Replay(replay(alloc, entries)?)),
-        "drive" => Ok(Request::Drive(drive(alloc, entries)?)),
-        "roll" => Ok(Request::Roll(roll(alloc, entries)?)),
-        "save" => Ok(Request::Save(save(alloc, entries)?)),
-        "resume" => Ok(Request::Resume(resume(alloc, entries)?)),
-        "run" => Ok(Request::Run(run(alloc, entries)?)),
-        "monitor" => Ok(Request::Monitor(monitor(alloc, entries)?)),
-        "check" => Ok(Request::Check(check(alloc, entries)?)),
-        "judge" => Ok(Request::Judge(name(alloc, entries, "accesses")?)),
-        "demo" => Ok(Request::Demo(demo(entries)?)),
-        "asm" => Ok(Request::Assemble(name(alloc, entries, "text")?)),
-        "dis" => Ok(Request::Disassemble(name(alloc, entries, "program")?)),
-        _ => Err(WordsFault::Usage),
+        "replay" => replay(alloc, entries),
+        "drive" => drive(alloc, entries),
+        "roll" => roll(alloc, entries),
+        "save" => save(alloc, entries),
+        "resume" => resume(alloc, entries),
+        "run" => run(alloc, entries),
+        "monitor" => monitor(alloc, entries),
+        _ => other_request(alloc, command, entries),
     }
 }
 

@@ -6,7 +6,7 @@ use sn_base::{Config, RunReport};
 use std::alloc::AllocError;
 
 /// What a replay shows.
-#[derive(Clone, Copy, PartialEq, Eq, Debug)]
+#[derive(Clone, Copy, Debug)]
 pub enum ReplayReport {
     /// Each event's answer.
     Events,
@@ -32,7 +32,7 @@ pub struct Replay {
 }
 
 /// What a drive shows of each event.
-#[derive(Clone, Copy, PartialEq, Eq, Debug)]
+#[derive(Clone, Copy, Debug)]
 pub enum DriveReport {
     /// Its answer.
     Events,
@@ -82,7 +82,7 @@ pub struct Resume {
 }
 
 /// Who has the next turn of a run.
-#[derive(Clone, Copy, PartialEq, Eq, Debug)]
+#[derive(Clone, Copy, Debug)]
 pub enum RunOrder {
     /// Each worker has a thread of its own, and the threads decide.
     Threads,
@@ -93,7 +93,7 @@ pub enum RunOrder {
 }
 
 /// How many runs there are, and whether they are counted.
-#[derive(Clone, Copy, PartialEq, Eq, Debug)]
+#[derive(Clone, Copy, Debug)]
 pub enum RunScope {
     /// One, with the seed of its rules.
     One,

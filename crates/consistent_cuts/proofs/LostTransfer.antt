@@ -29,8 +29,7 @@ use Rattle.sn_model.specs.NodeEvents.{ready_of}
 use Rattle.sn_model.specs.PointEvents.{fabric_restored_to}
 use Rattle.sn_model.specs.Step.{step_of}
 use Rattle.sn_model.specs.Trace.{TraceEntry}
-use Rattle.fabric_bounds.proofs.Counts.{none-taken}
-use Rattle.fabric_bounds.proofs.Frames.{empty-at}
+use Rattle.sn_model.proofs.Taken.{none-taken, empty-at}
 use Rattle.fabric_bounds.proofs.KeptStart.{first_homes_at, length-first_homes, length-empty_lines}
 use Rattle.consistent_cuts.specs.Example as example
 use Rattle.consistent_cuts.specs.Example.{storing, small, plain, retirement, stored_block, moving, losing, recovering, IsLostAndRecovered}

@@ -16,7 +16,7 @@ use Rattle.sn_model.specs.Fabric.{Fabric, Node, node_at}
 use Rattle.sn_model.specs.PointEvents.{restored_line, restored_lines}
 use Rattle.fabric_coherence.specs.Block as block
 use Rattle.fabric_coherence.specs.Log.{was_owned, old_or_now}
-use Rattle.fabric_coherence.proofs.Taken.{TakesFewer}
+use Rattle.sn_model.proofs.Taken.{TakesFewer}
 use Rattle.fabric_coherence.specs.View.{GhostState, block_seen, line_seen, miss_seen}
 use Rattle.fabric_coherence.specs.Leads.{is_framed}
 use Rattle.fabric_coherence.specs.Coherent.{FabricInvariant}

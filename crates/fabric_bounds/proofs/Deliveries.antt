@@ -9,18 +9,17 @@ use Rattle.sn_msg.specs.declared.Body.TheVariants.{GetS, GetM, FwdGetS, FwdGetM,
 use Rattle.sn_msg.specs.declared.Body.TheVariants.{PutGo, PutData, PutDone, Ready, Advance}
 use Rattle.sn_model.specs.declared.cache.Need.TheVariants as need
 use Rattle.sn_model.specs.declared.net.News.TheVariants as told
-use Rattle.sn_model.specs.CacheRows.{Logged, CacheReply}
+use Rattle.sn_model.specs.CacheRows.{Logged, CacheReply, MeetsRow}
 use Rattle.sn_model.specs.HomeRows.{HomeReply, put_data, unblock}
 use Rattle.sn_model.specs.Homes.{Transaction}
 use Rattle.sn_model.specs.Fabric.{Fabric, Flight, node_at, home_of, home_node, with_node, with_net, step_refused}
 use Rattle.sn_model.specs.Net.{net_limit, flight_of, without_flight, is_there}
 use Rattle.sn_model.specs.NetEvents.{AtCache, AtHome, logged_at, kept_at, unless_busy, outcome_of, node_after, home_after, node_after_news}
 use Rattle.sn_model.specs.NetEvents.{copy_lost, delivers, delivers_flight}
-use Rattle.fabric_coherence.specs.Rows.{MeetsRow}
+use Rattle.sn_model.specs.Receivers.{comes_to_cache}
 use Rattle.fabric_coherence.specs.View.{GhostState}
 use Rattle.fabric_coherence.specs.Steps.{IsInFlight, after_cache, after_home}
 use Rattle.fabric_coherence.specs.Coherent.{FabricInvariant}
-use Rattle.fabric_coherence.specs.CacheEvents.{comes_to_cache}
 use Rattle.fabric_coherence.proofs.InFlight.{in_flight, is_found}
 use Rattle.fabric_coherence.proofs.RowsMet.{meets_cache}
 use Rattle.fabric_bounds.specs.Counts.{most_sent}

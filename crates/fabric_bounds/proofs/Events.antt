@@ -30,7 +30,7 @@ use Rattle.sn_model.specs.NodeEvents.{checkpoint_limit, step_of_edge, ready_of, 
 use Rattle.sn_model.specs.NetEvents.{hops, hops_to, loses, step_of_kill}
 use Rattle.sn_model.specs.PointEvents.{advances, step_of_advance}
 use Rattle.route_plan.specs.Distances.{is_dead}
-use Rattle.fabric_coherence.proofs.Taken.{TakesFewer}
+use Rattle.sn_model.proofs.Taken.{TakesFewer}
 use Rattle.fabric_coherence.specs.View.{GhostState}
 use Rattle.fabric_coherence.specs.Coherent.{FabricInvariant}
 use Rattle.fabric_coherence.specs.Events.{CanWrite, MayBe}

@@ -22,5 +22,3 @@ pub use Rattle.fabric_coherence.proofs.Told
 pub use Rattle.fabric_coherence.proofs.NodesStay
 pub use Rattle.fabric_coherence.proofs.Holders
 pub use Rattle.fabric_coherence.proofs.RowsMet
-pub use Rattle.fabric_coherence.proofs.Counts
-pub use Rattle.fabric_coherence.proofs.Frames

@@ -5,8 +5,7 @@ use Rattle.std.proofs.lemmas.Bool.{cases_Bool}
 use Rattle.std.proofs.lemmas.Bool.Decides.{nat_tests}
 use Rattle.sn_base.specs.declared.config.Config.{Config}
 use Rattle.sn_model.specs.Caches.{Cache, Miss, line_of, is_present, misses_on, frames_taken}
-use Rattle.fabric_coherence.proofs.Taken.{TakesFewer, taken-more}
-use Rattle.fabric_coherence.proofs.Fits.{taken-of-set}
+use Rattle.sn_model.proofs.Taken.{TakesFewer, taken-more, taken-of-set}
 use Rattle.fabric_bounds.specs.Bounds.{CacheFits}
 use Rattle.fabric_bounds.proofs.Steps.{fewer_fits}
 

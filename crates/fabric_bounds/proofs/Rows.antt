@@ -11,7 +11,7 @@ use Rattle.sn_model.specs.Caches.{takes_frame}
 use Rattle.sn_model.specs.CacheRows.{Logged, CacheReply, AwaitsAnswer, content_of, line_when_done, reply_when_complete, reply_or_wait}
 use Rattle.sn_model.specs.CacheRows.{reply_or_wait_by, fixed_at, miss_with_ack, taken_over, forward_read, forward_write, invalidate}
 use Rattle.sn_model.specs.CacheRows.{data_shared, data_modified, data_exclusive, upgrade_granted, acknowledge, put_go, put_done}
-use Rattle.fabric_coherence.proofs.Taken.{TakesFewer, fewer-set}
+use Rattle.sn_model.proofs.Taken.{TakesFewer, fewer-set}
 
 -- a row takes no new frame, and sends one message at most
 pub record IsSmall (reply : CacheReply) (before : Cache) : Type 0 where

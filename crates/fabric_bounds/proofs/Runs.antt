@@ -11,7 +11,7 @@ use Rattle.sn_model.specs.FabricEvents.{FabricEvent, Access, Write, Evict, Edge,
 use Rattle.sn_model.specs.FabricEvents.{moved_by}
 use Rattle.sn_model.specs.PointEvents.{step_of_recovery, recovers, fabric_restored_to, restored_node, living_switches}
 use Rattle.route_plan.specs.Routes.{first_cut_off}
-use Rattle.fabric_coherence.proofs.Fits.{fits-none}
+use Rattle.sn_model.proofs.Taken.{fits-none}
 use Rattle.fabric_coherence.specs.View.{GhostState, block_seen}
 use Rattle.fabric_coherence.specs.Leads.{is_framed, KeepsFrames}
 use Rattle.fabric_coherence.specs.Coherent.{FabricInvariant}

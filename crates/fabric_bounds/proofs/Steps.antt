@@ -10,7 +10,7 @@ use Rattle.sn_model.specs.declared.net.News.{News}
 use Rattle.sn_model.specs.Caches.{Cache}
 use Rattle.sn_model.specs.Fabric.{Fabric, Node, FabricStep, node_at, first_node, step_with_answer}
 use Rattle.sn_model.specs.Net.{net_limit, routes_of, sending}
-use Rattle.fabric_coherence.proofs.Taken.{TakesFewer, taken-fewer}
+use Rattle.sn_model.proofs.Taken.{TakesFewer, taken-fewer}
 use Rattle.fabric_bounds.specs.Bounds.{CacheFits}
 use Rattle.fabric_bounds.specs.Counts.{SendsFew, most_sent}
 use Rattle.fabric_bounds.proofs.Lists.{read_set, flights-posted, next-posted, length-sent}

@@ -7,12 +7,11 @@ use Rattle.sn_msg.specs.declared.Body.TheVariants.{DataS, DataM, DataE}
 use Rattle.rv_core.specs.Core.{block_of}
 use Rattle.sn_model.specs.declared.cache.Need.TheVariants.{Write as ToWrite}
 use Rattle.sn_model.specs.Access.{lacks_room}
-use Rattle.sn_model.specs.Caches.{Cache, block_count, takes_frame}
+use Rattle.sn_model.specs.Caches.{Cache, block_count, takes_frame, FitsSets}
 use Rattle.sn_model.specs.Fabric.{Fabric, Node, node_at}
 use Rattle.sn_model.specs.FabricEvents.{FabricEvent, Write, moved_by}
 use Rattle.sn_model.specs.Net.{net_limit}
 use Rattle.sn_model.specs.PointEvents.{restored_cache}
-use Rattle.fabric_coherence.specs.Controller.{FitsSets}
 use Rattle.fabric_coherence.specs.Coherent.{FabricInvariant}
 use Rattle.fabric_coherence.specs.Events.{MayBe}
 use Rattle.fabric_coherence.specs.View.{GhostState}

@@ -11,6 +11,7 @@ use Rattle.sn_model.specs.CacheRows.{CacheReply}
 use Rattle.sn_model.specs.Fabric.{Fabric, node_at, FabricStep, step_refused}
 use Rattle.sn_model.specs.Net.{net_limit}
 use Rattle.sn_model.specs.NetEvents.{AtCache, node_after, outcome_of, delivers}
+use Rattle.sn_model.specs.Receivers.{comes_to_cache}
 use Rattle.sn_coherence.specs.Block as block
 use Rattle.sn_coherence.specs.Events.{Event, after}
 use Rattle.sn_coherence.specs.Invariant.{BlockInvariant}
@@ -19,7 +20,7 @@ use Rattle.fabric_coherence.specs.Steps.{IsInFlight, after_cache, ghost_with, lo
 use Rattle.fabric_coherence.specs.Coherent.{FabricInvariant}
 use Rattle.fabric_coherence.specs.Recorded.{heard_by}
 use Rattle.fabric_coherence.specs.Leads.{Goes, Moves}
-use Rattle.fabric_coherence.specs.CacheEvents.{comes_to_cache, told_of, IsCacheEvent}
+use Rattle.fabric_coherence.specs.CacheEvents.{told_of, IsCacheEvent}
 use Rattle.fabric_coherence.proofs.NetShape.{after_cache-shaped}
 use Rattle.fabric_coherence.proofs.CacheOutcomes.{forward_read-event, forward_write-event, invalidate-event, data_shared-event}
 use Rattle.fabric_coherence.proofs.CacheOutcomes.{data_modified-event, data_exclusive-event, upgrade_granted-event, acknowledge-event}

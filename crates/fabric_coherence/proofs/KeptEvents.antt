@@ -14,6 +14,7 @@ use Rattle.sn_model.specs.NetEvents.{delivers, delivers_flight, outcome_of}
 use Rattle.sn_model.specs.PointEvents.{step_of_advance, advances}
 use Rattle.sn_model.specs.FabricEvents.{FabricEvent, Access, Write, Evict, Edge, Hop, Deliver, Lose, Kill, Report, Advance, Recover}
 use Rattle.sn_model.specs.FabricEvents.{moved_by}
+use Rattle.sn_model.specs.Receivers.{comes_to_cache}
 use Rattle.sn_coherence.specs.Block.{is_to_home}
 use Rattle.sn_coherence.specs.Records.{Records}
 use Rattle.fabric_coherence.specs.View.{GhostState, message_seen}
@@ -23,7 +24,6 @@ use Rattle.fabric_coherence.specs.Events.{MayBe}
 use Rattle.fabric_coherence.specs.Recorded.{KeepsRecords, MayBeRecorded, noted_by, recorded_by}
 use Rattle.fabric_coherence.specs.Leads.{KeepsFrames, Goes, Moves}
 use Rattle.fabric_coherence.specs.Runs.{IsFabricRun, fabric_after}
-use Rattle.fabric_coherence.specs.CacheEvents.{comes_to_cache}
 use Rattle.fabric_coherence.proofs.KeptCommon.{frames_stay, as_it_is, by_test, kept_on, recorded_on}
 use Rattle.fabric_coherence.proofs.KeptNet.{lost_moves, hopped_moves, killed_moves, rises_goes, ready_delivered_moves}
 use Rattle.fabric_coherence.proofs.KeptNet.{advance_delivered_moves}

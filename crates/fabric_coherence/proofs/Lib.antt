@@ -42,8 +42,3 @@ pub mod Told
 pub mod Reports
 pub mod Served
 pub mod ToldOf
-pub mod FullLogs
-pub use Rattle.mosi_cache.proofs.Taken
-pub use Rattle.mosi_cache.proofs.Fits
-pub use Rattle.mosi_cache.proofs.Counts
-pub use Rattle.mosi_cache.proofs.Frames

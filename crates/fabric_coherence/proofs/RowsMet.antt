@@ -10,20 +10,19 @@ use Rattle.log_buffer.specs.Log.{logged_to}
 use Rattle.sn_model.specs.declared.home.Kind.{Kind}
 use Rattle.sn_model.specs.declared.home.Kind.TheVariants as kind
 use Rattle.sn_model.specs.Homes.{Holder, Itself, OfCache, Transaction, is_owner}
-use Rattle.sn_model.specs.HomeRows.{count_others}
+use Rattle.sn_model.specs.HomeRows.{count_others, HasRow, MayUnblock, MayEndPut, is_put, noting, noted_by_read, noted_by_write}
+use Rattle.sn_model.specs.HomeRows.{noted_by_end, noted_by_unblock, unless_open}
 use Rattle.sn_model.specs.Fabric.{Fabric, node_at, home_of, home_node}
 use Rattle.sn_model.specs.NetEvents.{logged_at}
-use Rattle.mosi_cache.specs.Rows.{MeetsRow, NotesInLogOrder, noted_in}
-use Rattle.home_directory.specs.Receipt.{HasRow, IsNoteInOrder, MayUnblock, MayGiveBack, is_put, noting, noted_by_read, noted_by_write}
-use Rattle.home_directory.specs.Receipt.{noted_by_end, noted_by_unblock, unless_open}
+use Rattle.sn_model.specs.CacheRows.{MeetsRow, noted_in}
+use Rattle.sn_model.specs.Receivers.{IsNoteInOrder, comes_to_cache, comes_to_home}
 use Rattle.sn_coherence.specs.Block as block
 use Rattle.sn_coherence.specs.Consequences.{MeetsRows, MeetsNotes}
 use Rattle.sn_coherence.proofs.WhatFollows.{kept_meets_rows, kept_meets_notes}
 use Rattle.fabric_coherence.specs.View.{GhostState, block_seen, message_seen, is_itself, owner_of, kind_seen, kind_open, requester_of}
 use Rattle.fabric_coherence.specs.Steps.{IsInFlight}
 use Rattle.fabric_coherence.specs.Coherent.{FabricInvariant}
-use Rattle.fabric_coherence.specs.CacheEvents.{comes_to_cache}
-use Rattle.fabric_coherence.specs.Met.{comes_to_home, MeetsCache, MeetsHome}
+use Rattle.fabric_coherence.specs.Met.{MeetsCache, MeetsHome}
 use Rattle.fabric_coherence.proofs.CacheConditions.{meets_forward_read, meets_forward_write, meets_data_shared, meets_data_modified}
 use Rattle.fabric_coherence.proofs.CacheConditions.{meets_data_exclusive, meets_upgrade_granted, meets_acknowledge, meets_put_go}
 use Rattle.fabric_coherence.proofs.CacheConditions.{meets_put_done, notes_forward_write, notes_put_go, notes_data_modified}
@@ -50,7 +49,7 @@ may_unblock None r g e = absurd (cc)
 may_unblock (Some transaction) r g e = (seen_get transaction.kind g, e)
 
 may_give_back : (open_one : Option Transaction) (r : ℕ) → kind_open open_one ≡ block.Put → requester_of open_one ≡ r →
-    MayGiveBack open_one r
+    MayEndPut open_one r
 may_give_back None r k e = absurd (cc)
 may_give_back (Some transaction) r k e = (seen_put transaction.kind k, e)
 
@@ -118,7 +117,7 @@ module _ (s : Fabric) (t : GhostState) (m : Message) (flight : IsInFlight s m) (
   cache_row PutDone is c = meets_put_done s t m flight rows is
   cache_row _ is c = absurd (cc)
 
-  cache_note : (x : Body) → m.body ≡ x → NotesInLogOrder (node_at s m.to).log m.block (noted_in (node_at s m.to).now m.tag x)
+  cache_note : (x : Body) → m.body ≡ x → IsNoteInOrder (node_at s m.to).log false m.block (noted_in (node_at s m.to).now m.tag x)
   cache_note (FwdGetM r due) is = notes_forward_write s t m flight notes r due is
   cache_note PutGo is = notes_put_go s t m flight notes is
   cache_note (DataM content due) is = notes_data_modified s t m flight notes content due is
@@ -157,7 +156,7 @@ module _ (s : Fabric) (t : GhostState) (m : Message) (flight : IsInFlight s m) (
       h : (block.gets here.kind ≡ true) × (here.requester ≡ (here.net m.id).from)
       h = rows.unblock m.id (ap (λ x. x.body) (seen_as (Unblock fixed) is))
 
-  gives_back : (content : List ℕ) → m.body ≡ PutData content → MayGiveBack (home_of s m.block).transaction m.from
+  gives_back : (content : List ℕ) → m.body ≡ PutData content → MayEndPut (home_of s m.block).transaction m.from
   gives_back content is = may_give_back (home_of s m.block).transaction m.from h.0 (h.1 ∙ ap (λ x. x.from) (seen_as (PutData content) is))
     where
       h : (here.kind ≡ block.Put) × (here.requester ≡ (here.net m.id).from)
@@ -190,7 +189,7 @@ module _ (s : Fabric) (t : GhostState) (m : Message) (flight : IsInFlight s m) (
       (notes.put_data m.id (ap (λ x. x.body) (seen_as (PutData content) is))))
 
   home_note : (x : Body) → m.body ≡ x → m.to ≡ home_node s m.block →
-      IsNoteInOrder (node_at s m.to).log (noting (home_of s m.block) (node_at s m.to).now m x) m.block
+      IsNoteInOrder (node_at s m.to).log true m.block (noting (home_of s m.block) (node_at s m.to).now m x)
   home_note GetS is home =
       late_read last (home_of s m.block).transaction (home_of s m.block).holder (count_others (home_of s m.block).sharers m.from)
       (node_at s m.to).now (late_now home)

@@ -1,9 +1,7 @@
--- Which messages come to a cache, and what it is that a row of a cache is an event of its block.
-use Rattle.std.specs.Prelude.{◌≡◌, ◌≢◌, ℕ, Bool, true, false, length, Option}
+-- What it is that a row of a cache is an event of its block.
+use Rattle.std.specs.Prelude.{◌≡◌, ◌≢◌, ℕ, length, Option}
 use Rattle.std.specs.Option.{option_map}
 use Rattle.sn_msg.specs.declared.Message.{Message}
-use Rattle.sn_msg.specs.declared.Body.{Body}
-use Rattle.sn_msg.specs.declared.Body.TheVariants.{FwdGetS, FwdGetM, Inv, DataS, DataM, DataE, UpgOk, InvAck, PutGo, PutDone}
 use Rattle.sn_model.specs.Caches.{block_count}
 use Rattle.sn_model.specs.CacheRows.{CacheReply}
 use Rattle.sn_model.specs.declared.net.News.{News}
@@ -20,19 +18,6 @@ use Rattle.fabric_coherence.specs.CacheSeen.{IsOwnRow, IsElsewhere}
 -- what is told of a lost copy
 abbrev pub told_of : ℕ → Option ℕ → Option News
 told_of n lost = option_map (λ (block : ℕ). LostCopy n block) lost
-
-abbrev pub comes_to_cache : Body → Bool
-comes_to_cache (FwdGetS r) = true
-comes_to_cache (FwdGetM r due) = true
-comes_to_cache (Inv r) = true
-comes_to_cache (DataS content) = true
-comes_to_cache (DataM content due) = true
-comes_to_cache (DataE content) = true
-comes_to_cache (UpgOk due) = true
-comes_to_cache InvAck = true
-comes_to_cache PutGo = true
-comes_to_cache PutDone = true
-comes_to_cache _ = false
 
 -- a reply of a cache is this event of its own block, and makes of the others these blocks; it says that this copy was lost
 pub record IsCacheEvent (s : Fabric) (t : GhostState) (m : Message) (reply : CacheReply) (event : Event) (others : ℕ → Block)

@@ -16,9 +16,6 @@ pub mod Recorded
 pub mod Leads
 pub mod Told
 pub mod Met
-pub use Rattle.mosi_cache.specs.Controller
-pub use Rattle.mosi_cache.specs.Rows
-pub use Rattle.mosi_cache.specs.Frames
 pub use Rattle.sn_saved.specs.Resumed
 pub use Rattle.sn_saved.specs.Saved
 pub use Rattle.sn_coherence.specs.Block

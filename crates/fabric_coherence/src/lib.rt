@@ -21,7 +21,7 @@ pub use laws::{
     nodes_are_in_time, nodes_stay, resumed_is_kept, start_is_kept, what_is_kept_is_coherent,
     what_is_served_can_be_used, what_is_told_is_of_the_fabric,
 };
-pub use met::{deliveries_meet_their_rows, full_logs_are_the_same};
+pub use met::deliveries_meet_their_rows;
 pub use records::{
     each_access_keeps_records, each_event_keeps_records, records_tell, reports_are_true,
     resumed_is_recorded, start_is_recorded,

@@ -2,6 +2,7 @@ pub mod Verdicts
 pub mod Opens
 pub mod Starts
 pub mod Agrees
+pub mod FullLogs
 pub mod Restored
 pub mod PutBack
 pub mod Listing

@@ -12,8 +12,9 @@ use Rattle.log_buffer.specs.Log.{LogData, has_entry}
 use Rattle.sn_model.specs.declared.home.Kind.{Kind}
 use Rattle.sn_model.specs.declared.home.Kind.TheVariants.{Read, Take, Move, Upgrade, Put}
 use Rattle.sn_model.specs.Homes.{HomeEntry, Holder, Itself, OfCache, Transaction, is_owner}
-use Rattle.sn_model.specs.HomeRows.{LoggedEntry, HomeReply, count_others, others, invalidations, read_at_home, read_at_owner}
-use Rattle.sn_model.specs.HomeRows.{move_ownership, upgrade, unblock, put_begins, put_is_stale, grant_exclusive}
+use Rattle.sn_model.specs.HomeRows.{LoggedEntry, HomeReply, count_others, others, invalidations, read_at_home, read_at_owner, HasRow}
+use Rattle.sn_model.specs.HomeRows.{move_ownership, upgrade, unblock, put_begins, put_is_stale, grant_exclusive, noted_by_read}
+use Rattle.sn_model.specs.HomeRows.{noted_by_write, noted_by_unblock, unless_open, noting}
 use Rattle.sn_model.specs.declared.home.Owner.{Owner}
 use Rattle.sn_model.specs.declared.home.Owner.TheVariants.{Home, Cache}
 use Rattle.home_directory.specs.Home.{holder_of, cache_of}
@@ -21,8 +22,7 @@ use Rattle.sn_model.specs.NetEvents.{Outcome, Busy, AtCache, AtHome, Noted, get_
 use Rattle.home_directory.specs.declared.step.HomeStep.{HomeStep}
 use Rattle.sn_model.specs.declared.look.Look.{Look}
 use Rattle.sn_model.specs.declared.look.Look.TheVariants.{Sends}
-use Rattle.home_directory.specs.Receipt.{Verdict, Does, IsBusy, LacksRoom, entry_as_it_is, HasRow, noted_by_read, noted_by_write, noted_by_unblock}
-use Rattle.home_directory.specs.Receipt.{unless_open, noting, outcome_at, verdict_on, within, look_of, left_by, Tells}
+use Rattle.home_directory.specs.Receipt.{Verdict, Does, IsBusy, LacksRoom, entry_as_it_is, outcome_at, verdict_on, within, look_of, left_by, Tells}
 use Rattle.home_directory.specs.Serving.{HasLogRoom, lacks_room, waits, count_sends, IsRowDone, DidOutcome}
 
 -- a log with a note has more than its limit just where it lacks the room

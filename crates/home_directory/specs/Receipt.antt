@@ -1,18 +1,16 @@
 -- What a home makes of a message: the row that it takes, or a refusal that changes nothing.
-use Rattle.std.specs.Prelude.{◌≡◌, ℕ, ◌+◌, ◌≤◌, Bool, true, false, nat_eq, nat_lt, if◌then◌else◌, List, ◌∷◌, length, Option, Some, None}
-use Rattle.std.specs.Prelude.{IfSome}
+use Rattle.std.specs.Prelude.{◌≡◌, ℕ, Bool, true, nat_lt, if◌then◌else◌, List, ◌∷◌, length, Option, Some, None}
 use Rattle.sn_base.specs.declared.log.LogEntry.{LogEntry}
 use Rattle.sn_msg.specs.declared.Message.{Message}
 use Rattle.sn_msg.specs.declared.Body.{Body}
 use Rattle.sn_msg.specs.declared.Body.TheVariants.{GetS, GetM, Unblock, PutReq, PutData}
-use Rattle.log_buffer.specs.Log.{LogData, logged_to}
-use Rattle.sn_model.specs.declared.home.Kind.{Kind}
-use Rattle.sn_model.specs.declared.home.Kind.TheVariants.{Move, Put}
+use Rattle.log_buffer.specs.Log.{LogData}
 use Rattle.sn_model.specs.declared.cache.Out.{Out}
 use Rattle.sn_model.specs.declared.look.Look.{Look}
 use Rattle.sn_model.specs.declared.look.Look.TheVariants.{Sends, HomeBusy as LooksBusy, LogFull as LooksFull}
-use Rattle.sn_model.specs.Homes.{HomeEntry, Holder, Itself, OfCache, Transaction, is_owner}
-use Rattle.sn_model.specs.HomeRows.{LoggedEntry, HomeReply, count_others, invalidations, unblock, put_data}
+use Rattle.sn_model.specs.Homes.{HomeEntry}
+use Rattle.sn_model.specs.HomeRows.{LoggedEntry, HomeReply, invalidations, unblock, put_data, HasRow, noting}
+use Rattle.sn_model.specs.Receivers.{IsNoteInOrder}
 use Rattle.sn_model.specs.NetEvents.{Outcome, Busy, AtHome, get_shared, get_modified, put_request, unless_busy}
 use Rattle.home_directory.specs.Home.{HomeData, entry_of, with_entry}
 use Rattle.home_directory.specs.declared.step.HomeStep.{HomeStep}
@@ -20,65 +18,6 @@ use Rattle.home_directory.specs.declared.step.HomeStep.TheVariants.{Took, HomeBu
 
 abbrev pub entry_as_it_is : HomeEntry → List LogEntry → LoggedEntry
 entry_as_it_is entry log = record { entry = entry; log = log }
-
--- which messages have a row
-
-abbrev pub is_put : Kind → Bool
-is_put Put = true
-is_put _ = false
-
--- an open transaction of another kind than Put that the sender asked for
-abbrev pub MayUnblock : Option Transaction → ℕ → Type 0
-MayUnblock None r = ⊥
-MayUnblock (Some transaction) r = (is_put transaction.kind ≡ false) × (transaction.requester ≡ r)
-
--- an open Put of the sender
-abbrev pub MayGiveBack : Option Transaction → ℕ → Type 0
-MayGiveBack None r = ⊥
-MayGiveBack (Some transaction) r = (is_put transaction.kind ≡ true) × (transaction.requester ≡ r)
-
--- whether a message from r has a row: a GetS that needn't wait doesn't come from the named owner
-abbrev pub HasRow : HomeEntry → ℕ → Body → Type 0
-HasRow entry r GetS = entry.transaction ≡ None → is_owner entry.holder r ≡ false
-HasRow entry r GetM = Unit {0}
-HasRow entry r PutReq = Unit {0}
-HasRow entry r (Unblock fixed) = MayUnblock entry.transaction r
-HasRow entry r (PutData content) = MayGiveBack entry.transaction r
-HasRow entry r _ = ⊥
-
--- the interval under which a row notes what stood, where it notes
-
-abbrev pub noted_by_read : Holder → ℕ → ℕ → Option ℕ
-noted_by_read (Itself content) others now = if nat_eq others 0 then Some now else None
-noted_by_read (OfCache owner) others now = None
-
-abbrev pub noted_by_write : Holder → ℕ → Option ℕ
-noted_by_write (Itself content) now = Some now
-noted_by_write (OfCache owner) now = None
-
-abbrev pub noted_by_end : Kind → Holder → ℕ → Option ℕ
-noted_by_end Move (OfCache owner) fixed = Some fixed
-noted_by_end _ _ fixed = None
-
-abbrev pub noted_by_unblock : Option Transaction → Holder → ℕ → Option ℕ
-noted_by_unblock None holder fixed = None
-noted_by_unblock (Some transaction) holder fixed = noted_by_end transaction.kind holder fixed
-
--- a request that waits notes nothing
-abbrev pub unless_open : Option Transaction → Option ℕ → Option ℕ
-unless_open None interval = interval
-unless_open (Some transaction) interval = None
-
-abbrev pub noting : HomeEntry → ℕ → Message → Body → Option ℕ
-noting entry now m GetS = unless_open entry.transaction (noted_by_read entry.holder (count_others entry.sharers m.from) now)
-noting entry now m GetM = unless_open entry.transaction (noted_by_write entry.holder now)
-noting entry now m (Unblock fixed) = noted_by_unblock entry.transaction entry.holder fixed
-noting entry now m (PutData content) = Some m.tag
-noting entry now m _ = None
-
--- a note isn't older than the newest entry of the home's side and the block
-abbrev pub IsNoteInOrder : List LogEntry → Option ℕ → ℕ → Type 0
-IsNoteInOrder log interval block = IfSome interval (λ i. logged_to log true block ≤ i + 1)
 
 -- what a message comes to: the rows of the definitions, at this entry and log
 abbrev pub outcome_at : LoggedEntry → ℕ → Message → Body → Outcome
@@ -141,7 +80,7 @@ HasRowAt home m = HasRow (entry_of home m.block) m.from m.body
 
 -- what its row notes isn't older than the log
 abbrev pub NotesInOrder : HomeData → LogData → ℕ → Message → Type 0
-NotesInOrder home log now m = IsNoteInOrder log.entries (noting (entry_of home m.block) now m m.body) m.block
+NotesInOrder home log now m = IsNoteInOrder log.entries true m.block (noting (entry_of home m.block) now m m.body)
 
 abbrev pub verdict_at : HomeData → LogData → ℕ → Message → Verdict
 verdict_at home log now m = verdict_of log.limit (entry_as_it_is (entry_of home m.block) log.entries) now m

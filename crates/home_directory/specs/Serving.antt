@@ -4,18 +4,12 @@ use Rattle.sn_msg.specs.declared.Body.{Body}
 use Rattle.sn_msg.specs.declared.Body.TheVariants.{GetS, GetM, PutReq}
 use Rattle.log_buffer.specs.Log.{LogData, has_entry}
 use Rattle.sn_model.specs.Homes.{HomeEntry}
-use Rattle.sn_model.specs.HomeRows.{LoggedEntry, HomeReply, count_others}
+use Rattle.sn_model.specs.HomeRows.{LoggedEntry, HomeReply, count_others, is_request}
 use Rattle.sn_model.specs.NetEvents.{Outcome, AtHome}
 use Rattle.home_directory.specs.declared.step.HomeStep.{HomeStep}
 use Rattle.home_directory.specs.Receipt.{Sent}
 
--- whether a message is a request, which waits while a transaction is open
-abbrev pub is_request : Body → Bool
-is_request GetS = true
-is_request GetM = true
-is_request PutReq = true
-is_request _ = false
-
+-- whether a message waits, since it is a request and a transaction is open
 abbrev pub waits : HomeEntry → Body → Bool
 waits entry body = is_request body && is_some entry.transaction
 

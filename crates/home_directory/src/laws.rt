@@ -1,22 +1,31 @@
 //! That the words of this layer are those of the whole machine's definitions.
 ghost use Rattle.std.specs.Prelude.{◌≡◌, ℕ, ◌%◌, ◌<◌, true, false, List, length, slice_index_or, Some, None};
+ghost use Rattle.sn_base.specs.declared.config.Config.{Config};
 ghost use Rattle.sn_msg.specs.declared.Message.{Message};
 ghost use Rattle.sn_msg.specs.declared.Body.{Body};
 ghost use Rattle.log_buffer.specs.Log.{LogEntry, old_at};
 ghost use Rattle.rollback.specs.Unwound.{content_unwound};
 ghost use Rattle.sn_model.specs.Caches.{block_count};
+ghost use Rattle.sn_model.specs.HomeRows.{HasRow};
+ghost use Rattle.sn_model.specs.Receivers.{comes_to_home};
 ghost use Rattle.sn_model.specs.Fabric.{Fabric, node_at, home_of, no_entry};
 ghost use Rattle.sn_model.specs.NetEvents.{kept_at, outcome_of};
 ghost use Rattle.sn_model.specs.NodeEvents.{least_begun};
 ghost use Rattle.sn_model.specs.PointEvents.{log_of_home, restored_homes};
 ghost use Rattle.home_directory.specs.Home.{HomeData, IsHome, entry_of, lesser_of, least_open};
-ghost use Rattle.home_directory.specs.Receipt.{HasRow, outcome_at};
+ghost use Rattle.home_directory.specs.Receipt.{outcome_at};
+ghost use Rattle.home_directory.specs.Machine.{IsFullAsAtHome};
 ghost use Rattle.home_directory.specs.Restored.{begun_restore, is_here, had, CanHave, Stays};
 
 /// A message that has a row comes to just what its delivery in the machine comes to.
 pub fn outcome_is_the_machines()
     ensures { (s : Fabric) (m : Message) (body : Body) → HasRow (home_of s m.block) m.from body →
         outcome_at (kept_at s m.to m.block) (node_at s m.to).now m body ≡ outcome_of s m body }
+{}
+
+/// A delivery finds the log full exactly where the home's verdict is that it lacks the room.
+pub fn full_log_is_the_machines()
+    ensures { (config : Config) (s : Fabric) (m : Message) → comes_to_home m.body ≡ true → IsFullAsAtHome config s m }
 {}
 
 /// What a home has open counts in a report as the machine's definitions say: the least interval in which one of its

@@ -29,7 +29,10 @@ mod touched;
 
 use entry::DirectoryEntry;
 pub use entry::Transaction;
-pub use laws::{least_open_is_the_machines, outcome_is_the_machines, restore_is_the_machines};
+pub use laws::{
+    full_log_is_the_machines, least_open_is_the_machines, outcome_is_the_machines,
+    restore_is_the_machines,
+};
 use log_buffer::LogBuffer;
 use open::Open;
 use sn_base::{Block, BlockNo, Image, Interval, Memory, NodeId, NodeSet};

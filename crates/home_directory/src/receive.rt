@@ -2,10 +2,10 @@
 ghost use Rattle.std.specs.Prelude.{◌≡◌, ◌+◌, ◌<◌, List, true, false, Some, None, IfSome};
 ghost use Rattle.sn_base.specs.declared.log.LogEntry.{LogEntry};
 ghost use Rattle.log_buffer.specs.Log.{IsLog};
-ghost use Rattle.sn_model.specs.HomeRows.{count_others};
+ghost use Rattle.sn_model.specs.HomeRows.{count_others, HasRow, noted_by_read, noted_by_write, noted_by_unblock, unless_open, noting};
 ghost use Rattle.sn_model.specs.NetEvents.{get_shared, get_modified, put_request};
-ghost use Rattle.home_directory.specs.Receipt.{entry_as_it_is, HasRow, IsNoteInOrder, noted_by_read, noted_by_write, noted_by_unblock, unless_open};
-ghost use Rattle.home_directory.specs.Receipt.{noting, outcome_at, verdict_of, left_by, Tells, look_of};
+ghost use Rattle.sn_model.specs.Receivers.{IsNoteInOrder};
+ghost use Rattle.home_directory.specs.Receipt.{entry_as_it_is, outcome_at, verdict_of, left_by, Tells, look_of};
 ghost use Rattle.home_directory.specs.Serving.{IsRowDone, DidOutcome, HasLogRoom, lacks_room, waits, count_sends};
 
 use crate::entry::DirectoryEntry;
@@ -111,8 +111,8 @@ fn get_shared(
 ) -> HomeStep
     requires room { IfSome (noted_by_read entry.old.holder (count_others entry.old.sharers message.now.from) now)
         (λ i. HasLogRoom log.old i message.now.block) }
-    requires latest { IsNoteInOrder log.old.entries
-        (noted_by_read entry.old.holder (count_others entry.old.sharers message.now.from) now) message.now.block }
+    requires latest { IsNoteInOrder log.old.entries true message.now.block
+        (noted_by_read entry.old.holder (count_others entry.old.sharers message.now.from) now) }
     ensures did { IsRowDone (entry_as_it_is entry.new log.new.entries) result
         (get_shared (entry_as_it_is entry.old log.old.entries) message.now.block now message.now.from entry.old.holder) }
     ensures limit { log.new.limit ≡ log.old.limit }
@@ -135,7 +135,7 @@ fn get_modified(
     log: &mut LogBuffer,
 ) -> HomeStep
     requires room { IfSome (noted_by_write entry.old.holder now) (λ i. HasLogRoom log.old i message.now.block) }
-    requires latest { IsNoteInOrder log.old.entries (noted_by_write entry.old.holder now) message.now.block }
+    requires latest { IsNoteInOrder log.old.entries true message.now.block (noted_by_write entry.old.holder now) }
     ensures did { IsRowDone (entry_as_it_is entry.new log.new.entries) result
         (get_modified (entry_as_it_is entry.old log.old.entries) message.now.block now message.now.from entry.old.holder) }
     ensures limit { log.new.limit ≡ log.old.limit }
@@ -173,7 +173,7 @@ fn serve(
     requires row { HasRow entry.old message.now.from message.now.body }
     requires idle { waits entry.old message.now.body ≡ false }
     requires room { IfSome (noting entry.old now message.now message.now.body) (λ i. HasLogRoom log.old i message.now.block) }
-    requires latest { IsNoteInOrder log.old.entries (noting entry.old now message.now message.now.body) message.now.block }
+    requires latest { IsNoteInOrder log.old.entries true message.now.block (noting entry.old now message.now message.now.body) }
     ensures did { DidOutcome (entry_as_it_is entry.new log.new.entries) result
         (outcome_at (entry_as_it_is entry.old log.old.entries) now message.now message.now.body) }
     ensures limit { log.new.limit ≡ log.old.limit }
@@ -197,7 +197,7 @@ pub fn receive(
     log: &mut LogBuffer,
 ) -> HomeStep
     requires row { HasRow entry.old message.now.from message.now.body }
-    requires latest { IsNoteInOrder log.old.entries (noting entry.old now message.now message.now.body) message.now.block }
+    requires latest { IsNoteInOrder log.old.entries true message.now.block (noting entry.old now message.now message.now.body) }
     ensures left { entry_as_it_is entry.new log.new.entries
         ≡ left_by (entry_as_it_is entry.old log.old.entries) (verdict_of log.old.limit (entry_as_it_is entry.old log.old.entries) now message.now) }
     ensures tells { Tells result (verdict_of log.old.limit (entry_as_it_is entry.old log.old.entries) now message.now) }

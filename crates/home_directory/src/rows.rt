@@ -4,8 +4,9 @@ ghost use Rattle.sn_base.specs.declared.log.LogEntry.{LogEntry};
 ghost use Rattle.log_buffer.specs.Log.{logged_to};
 ghost use Rattle.sn_model.specs.Homes.{HomeEntry, OfCache};
 ghost use Rattle.sn_model.specs.HomeRows.{taken_from_home, noted_owner, read_at_home, read_at_owner, take, move_ownership, upgrade};
-ghost use Rattle.sn_model.specs.HomeRows.{unblock, put_begins, put_is_stale, put_data, grant_exclusive};
-ghost use Rattle.home_directory.specs.Receipt.{entry_as_it_is, noted_by_end, noted_by_unblock, IsNoteInOrder};
+ghost use Rattle.sn_model.specs.HomeRows.{unblock, put_begins, put_is_stale, put_data, grant_exclusive, noted_by_end, noted_by_unblock};
+ghost use Rattle.sn_model.specs.Receivers.{IsNoteInOrder};
+ghost use Rattle.home_directory.specs.Receipt.{entry_as_it_is};
 ghost use Rattle.home_directory.specs.Serving.{IsRowDone, HasLogRoom};
 
 use crate::entry::{DirectoryEntry, Transaction};
@@ -134,7 +135,7 @@ fn end_move(
     requester: NodeId,
 )
     requires room { IfSome (noted_by_end Kind.Move entry.old.holder fixed) (λ i. HasLogRoom log.old i block) }
-    requires latest { IsNoteInOrder log.old.entries (noted_by_end Kind.Move entry.old.holder fixed) block }
+    requires latest { IsNoteInOrder log.old.entries true block (noted_by_end Kind.Move entry.old.holder fixed) }
     ensures gone { entry_as_it_is entry.new log.new.entries
         ≡ record {
           entry = record entry.old { holder = OfCache requester };
@@ -159,7 +160,7 @@ pub fn unblock(
     r: NodeId,
 ) -> HomeStep
     requires room { IfSome (noted_by_unblock entry.old.transaction entry.old.holder fixed) (λ i. HasLogRoom log.old i block) }
-    requires latest { IsNoteInOrder log.old.entries (noted_by_unblock entry.old.transaction entry.old.holder fixed) block }
+    requires latest { IsNoteInOrder log.old.entries true block (noted_by_unblock entry.old.transaction entry.old.holder fixed) }
     ensures did { IsRowDone (entry_as_it_is entry.new log.new.entries) result
         (unblock (entry_as_it_is entry.old log.old.entries) block fixed entry.old.transaction) }
     ensures limit { log.new.limit ≡ log.old.limit }

@@ -6,7 +6,7 @@ mod playing;
 mod rows;
 
 ghost use Rattle.std.specs.Prelude.{◌≡◌, true};
-ghost use Rattle.home_directory.specs.Receipt.{HasRow};
+ghost use Rattle.sn_model.specs.HomeRows.{HasRow};
 
 use crate::entry::DirectoryEntry;
 use crate::{HomeStep, Look, Out, Owner};

@@ -17,6 +17,7 @@ use Rattle.node_run.specs.Invariant.{FollowsJournal}
 use Rattle.sn_monitor.specs.Cut.{snap_of, snap_now}
 use Rattle.sn_monitor.specs.Goes as one
 use Rattle.script_replay.specs.Played.{IsWatchable}
+use Rattle.snap_board.specs.Watching.{BoardId}
 use Rattle.sn_monitor.specs.Monitored.{first_monitored}
 use Rattle.monitor_run.specs.declared.marks.Mark.{Mark}
 use Rattle.monitor_run.specs.Seen.{published_by, mark_of}
@@ -67,9 +68,9 @@ module _ (m : MachineData) (driver : DriverData) (watch seed budget : ℕ) (appl
   some : 0 < m.config.nodes
   some = grind (arith, nat_tests, sizes)
 
-  pub stands-first : (generators : Vec Lcg Global) (journal : Vec JournalEntry Global) (answers : Vec Answer Global) (published : Vec Mark Global) →
+  pub stands-first : (board : BoardId) (generators : Vec Lcg Global) (journal : Vec JournalEntry Global) (answers : Vec Answer Global) (published : Vec Mark Global) →
       journal.items ≡ [] → answers.items ≡ [] → published.items ≡ mark_of (snap_now m watch) ∷ [] → budget ≤ vec_capacity journal →
-      budget ≤ vec_capacity answers → budget + 1 ≤ vec_capacity published → Stands (first_monitored m driver watch) (record {
+      budget ≤ vec_capacity answers → budget + 1 ≤ vec_capacity published → Stands (first_monitored m driver watch board) (record {
         generators = generators;
         journal = journal;
         answers = answers;
@@ -77,7 +78,7 @@ module _ (m : MachineData) (driver : DriverData) (watch seed budget : ℕ) (appl
         seed = seed;
         budget = budget;
       })
-  stands-first generators journal answers published no_entry no_answer noted journal_room answers_room marks_room =
+  stands-first board generators journal answers published no_entry no_answer noted journal_room answers_room marks_room =
       let none : length journal.items ≡ 0 = ap (λ (l : List JournalEntry). length l) no_entry in
       let unanswered : length answers.items ≡ 0 = ap (λ (l : List Answer). length l) no_answer in
       let one : length published.items ≡ 1 = ap (λ (l : List Mark). length l) noted in

@@ -58,10 +58,11 @@ abbrev pub StopsBy : MonitoredData → Turns → Stop → Type 0
 StopsBy m t (Finished finish) = Stands m t × (refusal_of m.driver m.machine (nat_le t.budget (length t.journal.items)) ≡ Some finish)
 StopsBy m t Memory = Unit {0}
 
--- the same run, with the same word watched
+-- the same run, with the same word watched, on the same board
 pub record IsSameRun (m : MonitoredData) (t : Turns) (n : MonitoredData) (u : Turns) : Type 0 where
   pub start : its_start n u ≡ its_start m t
   pub watch : n.watch ≡ m.watch
+  pub board : n.board ≡ m.board
 
 -- turns of so many workers, none of which is had, with room for all
 pub record IsNew (workers : ℕ) (t : Turns) : Type 0 where

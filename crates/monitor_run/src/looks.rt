@@ -26,6 +26,7 @@ pub(crate) fn look(watcher: &mut Watcher, looks: &mut Vec<Mark>)
         → IsLater looks.old.items (mark_of s) → looks.new.items ≡ looks.old.items ++ mark_of s ∷ [] }
     ensures early { (s : SnapData) → EndsIn watcher.new.front s → (IsLater looks.old.items (mark_of s) → ⊥)
         → looks.new.items ≡ looks.old.items }
+    ensures board { watcher.new.board ≡ watcher.old.board }
     ensures full { vec_capacity looks.old ≤ vec_len looks.old → looks.new.items ≡ looks.old.items }
 {
     let mark = mark_of(&watcher.look());
@@ -40,7 +41,9 @@ pub(crate) fn look_on(
     watcher: &mut Watcher,
     looks: &mut Vec<Mark>,
     ended: &AtomicBool,
-) {
+)
+    ensures { watcher.new.board ≡ watcher.old.board }
+{
     'looks: for _ in rt.forever() {
         // Asked before the look, so that the last one comes after all turns.
         let last = ended.load(Ordering::SeqCst);

@@ -46,6 +46,7 @@ fn run_beside<T: Threads + Wait + Sync>(
     requires ready { IsReady monitored.old turns.old }
     ensures stop { StopsBy monitored.new turns.new result }
     ensures same { IsSameRun monitored.old turns.old monitored.new turns.new }
+    ensures board { watcher.new.board ≡ watcher.old.board }
 {
     let ended = AtomicBool::new(false);
     let ended = &ended;
@@ -68,6 +69,7 @@ fn run_beside<T: Threads + Wait + Sync>(
 // Runs to the end, or until memory is lacking for a snapshot.
 fn run_watched<T: Threads + Wait + Sync>(rt: &T, started: Started) -> Option<Left>
     requires stands { Stands started.monitored started.turns × IsReady started.monitored started.turns }
+    requires board { started.watcher.board ≡ started.monitored.board }
     requires seen { (started.seen.items ≡ []) × (started.turns.budget + 1 ≤ vec_capacity started.seen) }
     ensures { IfSome result (λ left. HasLeft (its_start started.monitored started.turns) started.monitored.watch left.machine left.turns
         left.seen.items left.finish) }

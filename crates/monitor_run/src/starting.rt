@@ -92,6 +92,7 @@ fn begin(
       budget = turns.old.budget;
     }) }
     ensures watch { IfOk result (λ started. started.0.watch ≡ watch) }
+    ensures board { IfOk result (λ started. started.1.board ≡ started.0.board) }
 {
     let nodes = machine.config().nodes;
     match Monitored::new(rt, alloc, machine, Driver::new(rules, nodes), watch) {
@@ -112,6 +113,7 @@ pub(crate) fn start(rt: &impl Wait, alloc: Global, job: Monitor) -> Result<Start
     ensures stands { IfOk result (λ s. Stands s.monitored s.turns × IsReady s.monitored s.turns) }
     ensures began { IfOk result (λ s. its_start s.monitored s.turns ≡ begins (run_of job)) }
     ensures watch { IfOk result (λ s. s.monitored.watch ≡ watched_word job.watch) }
+    ensures board { IfOk result (λ s. s.watcher.board ≡ s.monitored.board) }
     ensures looks { IfOk result (λ s. (s.looks.items ≡ []) × (job.budget + 1 ≤ vec_capacity s.looks)) }
     ensures seen { IfOk result (λ s. (s.seen.items ≡ []) × (job.budget + 1 ≤ vec_capacity s.seen)) }
 {

@@ -17,9 +17,9 @@ use Rattle.sn_model.specs.Net.{is_full}
 use Rattle.sn_model.specs.Access.{node_to_write, step_of_miss, accesses}
 use Rattle.sn_model.specs.NodeEvents.{step_of_eviction, evicts}
 use Rattle.sn_model.specs.NetEvents.{logged_at, outcome_of, AtCache}
+use Rattle.sn_model.specs.CacheRows.{row_by, MeetsRow}
 use Rattle.mosi_cache.specs.declared.step.AccessProbe.TheVariants.{Ready as IsReady, Waits as HasToWait, Miss, NeedsEvict as HasNoFrame}
 use Rattle.mosi_cache.specs.declared.step.AccessProbe.TheVariants.{LogFull as HasNoRoom}
-use Rattle.mosi_cache.specs.Rows.{row_by, MeetsRow}
 use Rattle.mosi_cache.specs.Probe.{probe_by, evict_by, evict_line}
 use Rattle.mosi_cache.specs.Machine.{controller_at, log_at, access_by_probe, evicted_by}
 

@@ -7,8 +7,8 @@ use Rattle.std.proofs.lemmas.List.{get_or-set_same, get_or-set_other, get_or_pas
 use Rattle.std.proofs.lemmas.Option.{none-some, same_Some}
 use Rattle.cache_array.specs.Slots.{FrameSlots, block_at, IsOfSet, frame_of, is_full, slots_with_block, slots_without_block}
 use Rattle.cache_array.proofs.Slots.{found-at, at-inside, frame-inside, slots-taken, slots-freed}
-use Rattle.sn_model.specs.Caches.{Line, no_line, is_present, block_count, frames_taken}
-use Rattle.mosi_cache.specs.Frames.{FrameLine, cache_of_lines, line_at, kept_at, line_kept, line_in_frame, line_in, lines_of, AreLines}
+use Rattle.sn_model.specs.Caches.{Line, no_line, is_present, block_count, frames_taken, cache_of_lines, line_at}
+use Rattle.mosi_cache.specs.Frames.{FrameLine, kept_at, line_kept, line_in_frame, line_in, lines_of, AreLines}
 use Rattle.mosi_cache.proofs.Frames.{length-lines, line-at, lines-changed, line-written, line-taken, line-freed}
 use Rattle.mosi_cache.proofs.Counts.{not-full}
 

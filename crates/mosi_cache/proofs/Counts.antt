@@ -10,9 +10,9 @@ use Rattle.cache_array.specs.Slots.{FrameSlots, is_of, frame_of, is_full}
 use Rattle.cache_array.proofs.Places.{position-None}
 use Rattle.cache_array.proofs.Slots.{found-at}
 use Rattle.cache_array.proofs.Counts.{how_many, is_in, blocks_in, full-counted}
-use Rattle.sn_model.specs.Caches.{Line, is_present, empty_lines, block_count, frames_below, frames_taken}
-use Rattle.mosi_cache.specs.Frames.{FrameLine, cache_of_lines, line_at, line_in_frame, line_in, lines_of, AreLines}
-use Rattle.mosi_cache.proofs.Frames.{line-at, empty-at}
+use Rattle.sn_model.specs.Caches.{Line, is_present, block_count, frames_below, frames_taken, cache_of_lines, line_at}
+use Rattle.mosi_cache.specs.Frames.{FrameLine, line_in_frame, line_in, lines_of, AreLines}
+use Rattle.mosi_cache.proofs.Frames.{line-at}
 
 -- slots of a set with a block below a number, and with just that block
 
@@ -157,18 +157,3 @@ few_step full n w h l = grind (arith, nat_tests)
 pub not-full : (d : FrameSlots) (ks : List FrameLine) (b : ℕ) → AreLines d ks → frames_taken (cache_of_lines (lines_of d ks)) d.sets b < d.ways →
     is_full d b ≡ false
 not-full d ks b h l = few_step (is_full d b) (frames_taken (cache_of_lines (lines_of d ks)) d.sets b) d.ways (full-taken d ks b h) l
-
--- a cache without a line takes no frame
-
-no_step : (a : ℕ) (c p : Bool) → a ≡ 0 → p ≡ false → a + (if c && (p || false) then 1 else 0) ≡ 0
-no_step a c p h i = grind arith
-
-no_frame : (n sets s : ℕ) → frames_below n (cache_of_lines empty_lines) sets s ≡ 0
-no_frame zero sets s = refl
-no_frame (suc n) sets s =
-    no_step (frames_below n (cache_of_lines empty_lines) sets s) (nat_eq (n % sets) s) (is_present (line_at empty_lines n).state)
-    (no_frame n sets s) (ap (λ (l : Line). is_present l.state) (empty-at n))
-
-pub none-taken : (sets b : ℕ) → frames_taken (cache_of_lines empty_lines) sets b ≡ 0
-unfolding frames_taken
-none-taken sets b = no_frame block_count sets (b % sets)

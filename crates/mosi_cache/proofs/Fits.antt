@@ -1,5 +1,5 @@
 -- No set has more frames taken than ways, after a change of a line or of what is open.
-use Rattle.std.proofs.Common.{◌≡◌, ℕ, ◌+◌, ◌<◌, ◌≤◌, ◌%◌, Bool, true, ◌||◌, List, set, Option, Some, None, refl, sym, ap, subst, arith}
+use Rattle.std.proofs.Common.{◌≡◌, ℕ, ◌+◌, ◌<◌, ◌≤◌, ◌%◌, Bool, true, ◌||◌, List, set, Option, Some, None, refl, sym, subst, arith}
 use Rattle.std.proofs.Common.{⊎_elim, IsNone, IfSome, false}
 use Rattle.std.specs.Prelude.{nat_eq, if◌then◌else◌}
 use Rattle.std.specs.Option.{option_map}
@@ -8,15 +8,14 @@ use Rattle.std.proofs.lemmas.Bool.Decides.{nat_tests}
 use Rattle.atomicity_point.specs.declared.Txn.{Txn}
 use Rattle.atomicity_point.specs.Txn.{Open, txn_with_answer, txn_with_ack as counted}
 use Rattle.sn_model.specs.declared.cache.Need.{Need}
-use Rattle.sn_model.specs.Caches.{Line, Cache, Miss, no_line, is_present, is_owned, is_writable_state, empty_lines, misses_on, takes_frame}
-use Rattle.sn_model.specs.Caches.{block_count, frames_taken, frames_below}
+use Rattle.sn_model.specs.Caches.{Line, Cache, Miss, no_line, is_present, is_owned, is_writable_state, misses_on, takes_frame}
+use Rattle.sn_model.specs.Caches.{frames_taken, cache_of_lines, line_at, FitsSets}
 use Rattle.sn_model.specs.declared.cache.LineState.{LineState}
 use Rattle.sn_model.specs.declared.cache.LineState.TheVariants.{Absent, Shared, Owned, Modified, Exclusive}
 use Rattle.sn_model.specs.CacheRows.{fixed_at, miss_with_ack, AwaitsAnswer}
-use Rattle.mosi_cache.specs.Frames.{LinesData, HasFrame, cache_of_lines, line_at}
-use Rattle.mosi_cache.proofs.Counts.{none-taken}
-use Rattle.mosi_cache.specs.Controller.{miss_of, cache_of, FitsSets}
-use Rattle.mosi_cache.proofs.Taken.{TakesFewer, taken-fewer, taken-more, taken-same, taken-strictly, fewer-set}
+use Rattle.sn_model.proofs.Taken.{TakesFewer, taken-fewer, taken-more, taken-same, taken-strictly, fewer-set, taken-of-set}
+use Rattle.mosi_cache.specs.Frames.{LinesData, HasFrame}
+use Rattle.mosi_cache.specs.Controller.{miss_of, cache_of}
 
 left : (p m : Bool) → p ≡ true → (p || m) ≡ true
 left p m h = grind arith
@@ -168,15 +167,7 @@ taken-closed need a o y n =
     taken-same (cache_of_lines a.lines) (cache_of need a o) a.sets y (closed_fewer a.lines (cache_of need a o) refl)
     (λ b h. strip need o.miss b (is_present (line_at a.lines b).state) n h)
 
--- a cache without a line takes no frame
-pub fits-none : (sets ways : ℕ) → FitsSets (cache_of_lines empty_lines) sets ways
-fits-none sets ways y = omega (arith, none-taken sets y)
-
 -- a miss on a block that has a line, or whose set has a frame for one
-
-pub taken-of-set : (c : Cache) (sets x y : ℕ) → x % sets ≡ y % sets → frames_taken c sets x ≡ frames_taken c sets y
-unfolding frames_taken
-taken-of-set c sets x y e = ap (λ s. frames_below block_count c sets s) e
 
 new_step : (need : Need) (p : Bool) (x b : ℕ) (t : Option Txn) → (p || nat_eq x b) ≡ true →
     ((p || misses_on (miss_of need t) b) || nat_eq x b) ≡ true

@@ -9,8 +9,9 @@ use Rattle.std.proofs.lemmas.List.FromFn.{length-map-range_with_len, get_or-map-
 use Rattle.std.proofs.lemmas.Option.{none-some, same_Some}
 use Rattle.cache_array.specs.Slots.{FrameSlots, AreSlots, block_at, IsOfSet, frame_of, slots_with_block, slots_without_block}
 use Rattle.cache_array.proofs.Slots.{frame-none, found-at, frame-taken, frame-freed}
-use Rattle.sn_model.specs.Caches.{Line, no_line, empty_lines, block_count}
-use Rattle.mosi_cache.specs.Frames.{FrameLine, line_at, line_kept, line_in_frame, line_in, lines_of}
+use Rattle.sn_model.specs.Caches.{Line, no_line, empty_lines, block_count, line_at}
+use Rattle.sn_model.proofs.Taken.{empty-at}
+use Rattle.mosi_cache.specs.Frames.{FrameLine, line_kept, line_in_frame, line_in, lines_of}
 
 pub length-lines : (d : FrameSlots) (ks : List FrameLine) → length (lines_of d ks) ≡ block_count
 unfolding lines_of
@@ -39,14 +40,6 @@ all_free sets ways = record { sets = sets; ways = ways; slots = replicate (sets 
 
 none_in : (sets ways : ℕ) (ks : List FrameLine) (b : ℕ) → line_in (all_free sets ways) ks b ≡ no_line
 none_in sets ways ks b = ap (line_in_frame ks) (frame-none (all_free sets ways) b (λ f h. free_at (sets * ways) f b h))
-
-pub empty-at : (b : ℕ) → line_at empty_lines b ≡ no_line
-unfolding empty_lines
-empty-at b =
-    ⊎_elim
-    (λ (l : b < block_count). get_or-replicate block_count b no_line no_line l)
-    (λ (l : block_count ≤ b). get_or_past (replicate block_count no_line) b no_line (omega (arith, length-replicate block_count no_line)))
-    (cases_lt b block_count)
 
 length_empty : length empty_lines ≡ block_count
 unfolding empty_lines

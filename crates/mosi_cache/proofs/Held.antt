@@ -10,10 +10,10 @@ use Rattle.sn_base.specs.declared.log.Old.TheVariants.{NotOwned, Owned, WasHome,
 use Rattle.rollback.specs.Unwound.{contents_with_old}
 use Rattle.sn_model.specs.declared.cache.LineState.{LineState}
 use Rattle.sn_model.specs.declared.cache.LineState.TheVariants.{Absent, Shared, Owned as InOwned, Modified, Exclusive}
-use Rattle.sn_model.specs.Caches.{Line, no_line, line_of, is_present, misses_on, takes_frame, block_count, frames_taken}
+use Rattle.sn_model.specs.Caches.{Line, no_line, line_of, is_present, misses_on, takes_frame, block_count, frames_taken, cache_of_lines}
+use Rattle.sn_model.specs.Caches.{line_at, FitsSets}
 use Rattle.sn_model.specs.Cuts.{owned_content}
-use Rattle.mosi_cache.specs.Frames.{cache_of_lines, line_at}
-use Rattle.mosi_cache.specs.Controller.{CacheData, FitsSets}
+use Rattle.mosi_cache.specs.Controller.{CacheData}
 use Rattle.mosi_cache.specs.Restored.{old_of, held_of, shared_copy, line_holding, cache_holding, HeldFits}
 use Rattle.mosi_cache.specs.PartsFit.{fits-within, holding-at, or-step, fewer-held}
 use Rattle.mosi_cache.proofs.Within.{strictly-within}

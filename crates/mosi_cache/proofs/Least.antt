@@ -12,9 +12,9 @@ use Rattle.cache_array.proofs.Slots.{found-at, frame-found}
 use Rattle.cache_array.proofs.Counts.{same-set}
 use Rattle.sn_model.specs.declared.cache.LineState.{LineState}
 use Rattle.sn_model.specs.declared.cache.LineState.TheVariants.{Absent, Shared, Owned, Modified, Exclusive}
-use Rattle.sn_model.specs.Caches.{Line, Miss, Put, no_line, misses_on}
+use Rattle.sn_model.specs.Caches.{Line, Miss, Put, no_line, misses_on, line_at}
 use Rattle.sn_model.specs.NodeEvents.{has_put}
-use Rattle.mosi_cache.specs.Frames.{FrameLine, line_at, kept_at, lines_of, AreLines, is_spared, may_leave, leaves, lesser_of, leaving_by}
+use Rattle.mosi_cache.specs.Frames.{FrameLine, kept_at, lines_of, AreLines, is_spared, may_leave, leaves, lesser_of, leaving_by}
 use Rattle.mosi_cache.specs.Frames.{leaving_at, IsLeastLeaving}
 use Rattle.mosi_cache.specs.Controller.{CacheData}
 use Rattle.mosi_cache.specs.Probe.{evict_line, lets_go, may_go}

@@ -1,6 +1,5 @@
 pub mod Frames
 pub mod Counts
-pub mod Taken
 pub mod Changes
 pub mod Fits
 pub mod CompletedOrWaiting
@@ -8,6 +7,7 @@ pub mod Probes
 pub mod Stores
 pub mod Least
 pub mod Agrees
+pub mod FullLogs
 pub mod Logs
 pub mod Within
 pub mod Unshared

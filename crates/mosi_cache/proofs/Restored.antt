@@ -11,11 +11,10 @@ use Rattle.log_buffer.specs.Log.{old_at}
 use Rattle.rollback.specs.Unwound.{content_unwound}
 use Rattle.sn_model.specs.declared.cache.LineState.{LineState}
 use Rattle.sn_model.specs.declared.cache.LineState.TheVariants.{Absent, Shared, Owned as InOwned, Modified, Exclusive}
-use Rattle.sn_model.specs.Caches.{Line, Cache, Miss, no_line, line_of, is_present, misses_on, block_count}
+use Rattle.sn_model.specs.Caches.{Line, Cache, Miss, no_line, line_of, is_present, misses_on, block_count, line_at, FitsSets}
 use Rattle.sn_model.specs.Cuts.{owned_content, held_by}
 use Rattle.sn_model.specs.PointEvents.{restored_line, restored_lines, restored_cache}
-use Rattle.mosi_cache.specs.Frames.{line_at}
-use Rattle.mosi_cache.specs.Controller.{CacheData, FitsSets}
+use Rattle.mosi_cache.specs.Controller.{CacheData}
 use Rattle.mosi_cache.specs.Restored.{begun_line, begun_restore, old_of, held_of, line_holding, lines_holding, cache_holding, HeldFits}
 use Rattle.mosi_cache.specs.Restored.{HasOnlyModified, StaysAsItIs}
 use Rattle.mosi_cache.specs.PartsFit.{fits-within, holding-at}

@@ -7,9 +7,9 @@ use Rattle.atomicity_point.specs.Txn.{Open}
 use Rattle.rv_core.specs.Core.{block_of}
 use Rattle.sn_model.specs.declared.cache.Need.{Need}
 use Rattle.sn_model.specs.declared.cache.LineState.TheVariants.{Modified}
-use Rattle.sn_model.specs.Caches.{Line, no_line, is_present}
+use Rattle.sn_model.specs.Caches.{Line, no_line, is_present, line_at}
 use Rattle.sn_model.specs.Access.{written_in}
-use Rattle.mosi_cache.specs.Frames.{LinesData, line_at}
+use Rattle.mosi_cache.specs.Frames.{LinesData}
 use Rattle.mosi_cache.specs.Probe.{cache_after_write}
 use Rattle.mosi_cache.proofs.CompletedOrWaiting.{data_by}
 

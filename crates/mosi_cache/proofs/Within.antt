@@ -2,7 +2,7 @@
 use Rattle.std.proofs.Common.{◌≡◌, ℕ, zero, suc, ◌<◌, ◌%◌, true, false, sym, subst, arith}
 use Rattle.sn_model.specs.Caches.{Cache, takes_frame, block_count, frames_below, frames_taken}
 use Rattle.mosi_cache.specs.PartsFit.{TakesFewerBelow, fewer-below}
-use Rattle.mosi_cache.proofs.Taken.{strict_step}
+use Rattle.sn_model.proofs.Taken.{strict_step}
 
 strict_below : (n : ℕ) (c d : Cache) (sets x : ℕ) → TakesFewerBelow n c d → takes_frame d x ≡ true → takes_frame c x ≡ false → x < n →
     frames_below n c sets (x % sets) < frames_below n d sets (x % sets)

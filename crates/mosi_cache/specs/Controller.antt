@@ -1,10 +1,10 @@
 -- A cache controller as a value: the cache of the machine's definitions, with the node that it serves and its sizes.
-use Rattle.std.specs.Prelude.{ℕ, ◌≤◌, List, Option, Some, None}
+use Rattle.std.specs.Prelude.{ℕ, List, Option, Some, None}
 use Rattle.sn_base.specs.declared.log.LogEntry.{LogEntry}
 use Rattle.atomicity_point.specs.declared.Txn.{Txn}
 use Rattle.atomicity_point.specs.Txn.{Open}
 use Rattle.sn_model.specs.declared.cache.Need.{Need}
-use Rattle.sn_model.specs.Caches.{Cache, Miss, Put, frames_taken}
+use Rattle.sn_model.specs.Caches.{Cache, Miss, Put}
 use Rattle.sn_model.specs.CacheRows.{Logged}
 use Rattle.mosi_cache.specs.Frames.{LinesData}
 
@@ -28,10 +28,6 @@ put_of (Some t) = Some (record { block = t.block; issued = t.issued })
 
 abbrev pub cache_of : Need → LinesData → Open → Cache
 cache_of need lines transactions = record { lines = lines.lines; miss = miss_of need transactions.miss; put = put_of transactions.put }
-
--- in no set more frames are taken than it has ways
-abbrev pub FitsSets : Cache → ℕ → ℕ → Type 0
-FitsSets cache sets ways = (block : ℕ) → frames_taken cache sets block ≤ ways
 
 -- the controller's cache with entries of its node's log
 abbrev pub with_entries : CacheData → List LogEntry → Logged

@@ -7,7 +7,7 @@ use Rattle.sn_model.specs.declared.cache.LineState.{LineState}
 use Rattle.sn_model.specs.declared.cache.LineState.TheVariants.{Absent, Shared, Owned, Modified, Exclusive}
 use Rattle.sn_model.specs.declared.cache.Need.{Need}
 use Rattle.sn_model.specs.CacheRows.{line_when_done}
-use Rattle.sn_model.specs.Caches.{Line, Cache, no_line, is_present, block_count, frames_taken}
+use Rattle.sn_model.specs.Caches.{Line, no_line, line_at, cache_of_lines, is_present, block_count, frames_taken}
 pub use Rattle.mosi_cache.specs.declared.lines.FrameLine.{FrameLine}
 
 -- the lines that a cache keeps, and how they are divided
@@ -15,14 +15,6 @@ pub record LinesData : Type 0 where
   pub lines : List Line
   pub sets : ℕ
   pub ways : ℕ
-
--- the line of a block
-abbrev pub line_at : List Line → ℕ → Line
-line_at lines block = slice_index_or lines block no_line
-
--- a cache of these lines, with nothing open
-abbrev pub cache_of_lines : List Line → Cache
-cache_of_lines lines = record { lines = lines; miss = None; put = None }
 
 -- a block of memory has a line, or its set has a frame for one
 abbrev pub HasFrame : LinesData → ℕ → Type 0

@@ -6,10 +6,9 @@ use Rattle.std.proofs.lemmas.List.FromFn.{get_or-map-range_with_len}
 use Rattle.sn_base.specs.declared.log.Old.{Old}
 use Rattle.sn_base.specs.declared.log.Old.TheVariants.{NotOwned, Owned, WasHome, WasCache}
 use Rattle.rollback.specs.Unwound.{IsPart, IsBetween}
-use Rattle.sn_model.specs.Caches.{Line, Cache, no_line, line_of, is_present, misses_on, takes_frame, block_count, frames_below}
-use Rattle.sn_model.specs.Caches.{frames_taken}
-use Rattle.mosi_cache.specs.Frames.{line_at}
-use Rattle.mosi_cache.specs.Controller.{CacheData, FitsSets}
+use Rattle.sn_model.specs.Caches.{Line, Cache, no_line, line_of, is_present, misses_on, takes_frame, block_count, frames_below, line_at}
+use Rattle.sn_model.specs.Caches.{frames_taken, FitsSets}
+use Rattle.mosi_cache.specs.Controller.{CacheData}
 use Rattle.mosi_cache.specs.Restored.{shared_copy, line_holding, lines_holding, cache_holding, HeldFits, StaysAsItIs}
 
 -- whether each of the first blocks that takes a frame of one cache takes one of another

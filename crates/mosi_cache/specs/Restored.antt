@@ -6,11 +6,10 @@ use Rattle.sn_base.specs.declared.log.Old.{Old}
 use Rattle.sn_base.specs.declared.log.Old.TheVariants.{NotOwned, Owned, WasHome, WasCache}
 use Rattle.sn_model.specs.declared.cache.LineState.{LineState}
 use Rattle.sn_model.specs.declared.cache.LineState.TheVariants.{Absent, Shared, Owned as InOwned, Modified, Exclusive}
-use Rattle.sn_model.specs.Caches.{Line, Cache, no_line, line_of, block_count}
+use Rattle.sn_model.specs.Caches.{Line, Cache, no_line, line_of, block_count, line_at, FitsSets}
 use Rattle.sn_model.specs.Cuts.{owned_content}
 use Rattle.sn_model.specs.PointEvents.{restored_line}
-use Rattle.mosi_cache.specs.Frames.{line_at}
-use Rattle.mosi_cache.specs.Controller.{CacheData, FitsSets}
+use Rattle.mosi_cache.specs.Controller.{CacheData}
 
 -- a line once a recovery begins: one that owns its block is Modified, and any other is gone
 abbrev pub begun_line : Line → Line

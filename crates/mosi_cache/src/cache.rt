@@ -5,9 +5,10 @@ ghost use Rattle.std.specs.Prelude.{◌≡◌, ℕ, ◌+◌, ◌<◌, ◌≤◌,
 ghost use Rattle.sn_base.specs.Config.{config_fits};
 ghost use Rattle.sn_base.specs.declared.log.LogEntry.{LogEntry};
 ghost use Rattle.sn_model.specs.Caches.{empty_cache};
-ghost use Rattle.sn_model.specs.CacheRows.{Logged, fixed_at, miss_with_ack, reply_or_wait};
+ghost use Rattle.sn_model.specs.CacheRows.{Logged, fixed_at, miss_with_ack, reply_or_wait, row_by, MeetsRow, noted_in};
+ghost use Rattle.sn_model.specs.Receivers.{IsNoteInOrder};
 ghost use Rattle.mosi_cache.specs.Controller.{CacheData, with_entries};
-ghost use Rattle.mosi_cache.specs.Rows.{row_by, row_of, MeetsRow, NotesInLogOrder, noted_in, is_over, step_by, look_by, cache_by, log_by};
+ghost use Rattle.mosi_cache.specs.Rows.{row_of, is_over, step_by, look_by, cache_by, log_by};
 ghost use Rattle.mosi_cache.specs.Rows.{IsRowDone};
 
 mod access;
@@ -39,7 +40,8 @@ pub struct Cache {
 
 impl Model for Cache {
     ghost use Rattle.std.specs.Prelude.{◌≤◌};
-    ghost use Rattle.mosi_cache.specs.Controller.{CacheData, cache_of, FitsSets};
+    ghost use Rattle.sn_model.specs.Caches.{FitsSets};
+    ghost use Rattle.mosi_cache.specs.Controller.{CacheData, cache_of};
 
     ghost Value = { CacheData };
 
@@ -87,7 +89,7 @@ impl Cache {
         requires here { message.now.to ≡ self.now.node }
         requires come { message.now.tag ≤ now }
         requires row { MeetsRow (with_entries self.now log.now.entries) message.now.block message.now.body }
-        requires last { NotesInLogOrder log.now.entries message.now.block (noted_in now message.now.tag message.now.body) }
+        requires last { IsNoteInOrder log.now.entries false message.now.block (noted_in now message.now.tag message.now.body) }
         ensures { result ≡ look_by log.now (row_of self.now log.now now message.now) }
     {
         let room = log.room();
@@ -106,7 +108,7 @@ impl Cache {
         requires here { message.now.to ≡ self.old.node }
         requires come { message.now.tag ≤ now }
         requires row { MeetsRow (with_entries self.old log.old.entries) message.now.block message.now.body }
-        requires last { NotesInLogOrder log.old.entries message.now.block (noted_in now message.now.tag message.now.body) }
+        requires last { IsNoteInOrder log.old.entries false message.now.block (noted_in now message.now.tag message.now.body) }
         ensures answer { result ≡ step_by log.old (row_of self.old log.old now message.now) }
         ensures cache { self.new ≡ cache_by self.old log.old (row_of self.old log.old now message.now) }
         ensures log { log.new ≡ log_by log.old (row_of self.old log.old now message.now) }
@@ -120,7 +122,7 @@ impl Cache {
     /// Does the row of the message, for which the log has room.
     fn take(&mut self, message: &Message, now: Interval, log: &mut LogBuffer) -> CacheStep
         requires row { MeetsRow (with_entries self.old log.old.entries) message.now.block message.now.body }
-        requires last { NotesInLogOrder log.old.entries message.now.block (noted_in now message.now.tag message.now.body) }
+        requires last { IsNoteInOrder log.old.entries false message.now.block (noted_in now message.now.tag message.now.body) }
         requires room { is_over log.old (row_of self.old log.old now message.now) ≡ false }
         ensures done { IsRowDone self.old self.new result (row_of self.old log.old now message.now) }
         ensures log { log.new ≡ record log.old { entries = (row_of self.old log.old now message.now).after.log } }

@@ -1,27 +1,34 @@
 //! That the words of this layer are those of the whole machine's definitions.
-ghost use Rattle.std.specs.Prelude.{◌≡◌, ℕ, false, List, length, Option};
+ghost use Rattle.std.specs.Prelude.{◌≡◌, ℕ, true, false, List, length, Option};
 ghost use Rattle.sn_base.specs.declared.block.Write.{Write};
 ghost use Rattle.sn_base.specs.declared.config.Config.{Config};
 ghost use Rattle.sn_base.specs.declared.log.LogEntry.{LogEntry};
 ghost use Rattle.sn_msg.specs.declared.Message.{Message};
 ghost use Rattle.rollback.specs.Unwound.{content_unwound};
 ghost use Rattle.sn_model.specs.declared.cache.Need.{Need};
-ghost use Rattle.sn_model.specs.Caches.{Miss, Put, block_count};
+ghost use Rattle.sn_model.specs.Caches.{Miss, Put, block_count, FitsSets};
+ghost use Rattle.sn_model.specs.Receivers.{comes_to_cache};
 ghost use Rattle.sn_model.specs.Fabric.{Fabric, node_at};
 ghost use Rattle.sn_model.specs.Access.{node_to_write, with_write, missing, step_of_miss, accesses};
 ghost use Rattle.sn_model.specs.NodeEvents.{step_of_eviction, with_put as putting, issued_by, put_issued_by};
 ghost use Rattle.sn_model.specs.NetEvents.{logged_at, outcome_of, AtCache};
 ghost use Rattle.sn_model.specs.PointEvents.{restored_cache};
-ghost use Rattle.mosi_cache.specs.Controller.{CacheData, FitsSets};
-ghost use Rattle.mosi_cache.specs.Rows.{row_of, MeetsRow};
+ghost use Rattle.sn_model.specs.CacheRows.{MeetsRow};
+ghost use Rattle.mosi_cache.specs.Controller.{CacheData};
+ghost use Rattle.mosi_cache.specs.Rows.{row_of};
 ghost use Rattle.mosi_cache.specs.Probe.{log_with, probe_by, with_miss, with_put, cache_after_write, evict_by, least_open_of};
-ghost use Rattle.mosi_cache.specs.Machine.{controller_at, log_at, access_by_probe, evicted_by, at_most};
+ghost use Rattle.mosi_cache.specs.Machine.{controller_at, log_at, IsFullAsAtCache, access_by_probe, evicted_by, at_most};
 ghost use Rattle.mosi_cache.specs.Restored.{begun_restore, held_of, HeldFits, StaysAsItIs};
 
 /// A message that has a row comes to just what its delivery in the machine comes to.
 pub fn row_is_the_machines()
     ensures { (config : Config) (s : Fabric) (m : Message) → MeetsRow (logged_at s m.to) m.block m.body →
         outcome_of s m m.body ≡ AtCache (row_of (controller_at config s m.to) (log_at config s m.to) (node_at s m.to).now m) }
+{}
+
+/// A delivery finds the log full exactly where the controller says so.
+pub fn full_log_is_the_machines()
+    ensures { (config : Config) (s : Fabric) (m : Message) → comes_to_cache m.body ≡ true → IsFullAsAtCache config s m }
 {}
 
 /// The answer to a probe says what an access comes to, but for want of room in the network.

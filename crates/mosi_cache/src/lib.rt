@@ -19,8 +19,9 @@ mod step;
 
 pub use cache::Cache;
 pub use laws::{
-    changes_are_the_machines, eviction_is_the_machines, least_open_is_the_machines,
-    probe_is_the_machines, restore_is_the_machines, row_is_the_machines,
+    changes_are_the_machines, eviction_is_the_machines, full_log_is_the_machines,
+    least_open_is_the_machines, probe_is_the_machines, restore_is_the_machines,
+    row_is_the_machines,
 };
 pub use looks::{Line, OpenMiss, OpenPut};
 pub use sn_model::{LineState, Look, Need, Out};

@@ -5,8 +5,8 @@
 //! and how many frames of a set the lines take. A line never finds its set full: who adds one asks before.
 ghost use Rattle.std.specs.Prelude.{◌≡◌, ℕ, ◌*◌, ◌+◌, ◌<◌, ◌≤◌, ◌%◌, ◌&&◌, true, false, nat_le, length, slice_set, IfOk, IfSome, IsNone};
 ghost use Rattle.std.specs.Prelude.{not, Some};
-ghost use Rattle.sn_model.specs.Caches.{no_line, empty_lines, is_present, block_count, frames_taken};
-ghost use Rattle.mosi_cache.specs.Frames.{LinesData, HasFrame, cache_of_lines, line_at, line_kept, line_after_miss, is_spared, may_leave, leaves};
+ghost use Rattle.sn_model.specs.Caches.{no_line, empty_lines, is_present, block_count, frames_taken, cache_of_lines, line_at};
+ghost use Rattle.mosi_cache.specs.Frames.{LinesData, HasFrame, line_kept, line_after_miss, is_spared, may_leave, leaves};
 ghost use Rattle.mosi_cache.specs.Frames.{lesser_of, leaving_at, IsLeastLeaving};
 
 mod restore;

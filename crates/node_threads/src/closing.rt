@@ -22,6 +22,7 @@ pub(crate) fn close<L: RunName>(
     ensures parts { all.new.parts ≡ all.old.parts }
     ensures finish { IsOk drained.now →
         refusal_of locked.new.driver locked.new.machine (nat_le locked.new.budget (length locked.new.journal)) ≡ Some result }
+    ensures stopped { IsErr drained.now → (result ≡ Finish.Stopped) × (locked.new ≡ locked.old) × (all.new.amount ≡ all.old.amount) }
 {
     if drained.is_err() {
         return Finish::Stopped;

@@ -1,10 +1,11 @@
 //! Why an assembly text is refused.
-ghost use Rattle.std.specs.Prelude.{◌≡◌, ◌++◌, nat_eq, map, flat_map, option_map, OnOk};
+ghost use Rattle.std.specs.Prelude.{◌≡◌, ◌++◌, map, flat_map, option_map, OnOk};
 ghost use Rattle.std.specs.List.{position};
 ghost use Rattle.reasons.specs.Reason.{colon_and, begun, line_of_reason};
 ghost use Rattle.reasons.specs.Assembly.{is_mark, ends_word, behind_blanks, word_in, behind_word, behind_comma, operand_or_byte, instead_of};
 ghost use Rattle.reasons.specs.Assembly.{pseudo, formless_by, formless_text, line_of, what_of, asm_reason};
 
+use crate::hints::place_of;
 use crate::place::line_at;
 use crate::reason::Reason;
 use rv_asm::AsmCause;
@@ -54,12 +55,6 @@ fn word_end(text: &[u8]) -> Option<usize>
     text.iter().position(|byte| *byte == b' ' || *byte == b'\t' || *byte == b',' || *byte == b'#')
 }
 
-fn comma_in(text: &[u8]) -> Option<usize>
-    ensures { result ≡ position (λ byte. nat_eq byte 44) text.now }
-{
-    text.iter().position(|byte| *byte == b',')
-}
-
 fn behind_blanks(text: &[u8]) -> &[u8]
     ensures { result.now ≡ behind_blanks text.entry.now }
 {
@@ -94,7 +89,7 @@ fn behind_word(text: &[u8]) -> &[u8]
 fn behind_comma(text: &[u8]) -> &[u8]
     ensures { result.now ≡ behind_comma text.entry.now }
 {
-    match comma_in(text) {
+    match place_of(b',', text) {
         Some(place) => &text[place + 1..],
         None => &text[text.len()..],
     }

@@ -87,9 +87,11 @@ pub fn write_spent(reason: &mut Reason, budget: u32) -> Result<(), Memory>
     ensures { OnOk result (reason.new ≡ line_of_reason (spent_reason (begun reason.old) budget)) }
 {
     reason.begin()?;
-    reason.text("the run has ")?;
-    reason.number(u64::from(budget))?;
-    reason.text(" events, which is its budget, and its cores haven't all ended")?;
+    reason.counted(
+        "the run has ",
+        u64::from(budget),
+        " events, which is its budget, and its cores haven't all ended",
+    )?;
     reason.end()
 }
 
@@ -98,9 +100,7 @@ pub fn write_spent(reason: &mut Reason, budget: u32) -> Result<(), Memory>
 pub(crate) fn write_nodes_cut_off(reason: &mut Reason, a: NodeId, b: NodeId) -> Result<(), Memory>
     ensures { OnOk result (reason.new ≡ cut_off reason.old a b) }
 {
-    reason.text("nodes ")?;
-    reason.number(u64::from(a.number()))?;
-    reason.text(" and ")?;
+    reason.counted("nodes ", u64::from(a.number()), " and ")?;
     reason.number(u64::from(b.number()))?;
     reason.text(" are cut off: no living switches join them")
 }
@@ -134,9 +134,7 @@ pub fn write_trapped(reason: &mut Reason, node: NodeId, cause: Cause) -> Result<
     ensures { OnOk result (reason.new ≡ line_of_reason (trap_reason (begun reason.old) node cause)) }
 {
     reason.begin()?;
-    reason.text("core ")?;
-    reason.number(u64::from(node.number()))?;
-    reason.text(" trapped: ")?;
+    reason.counted("core ", u64::from(node.number()), " trapped: ")?;
     reason.text(trap_text(cause))?;
     reason.end()
 }

@@ -46,7 +46,8 @@ fn begins(text: &[u8], line: &[u8]) -> bool
     line.strip_prefix(text).is_some()
 }
 
-fn place_of(byte: u8, line: &[u8]) -> Option<usize>
+/// Where a byte stands first.
+pub(crate) fn place_of(byte: u8, line: &[u8]) -> Option<usize>
     ensures { result ≡ position (λ other. nat_eq other byte) line.now }
 {
     line.iter().position(|other| *other == byte)

@@ -56,9 +56,7 @@ fn write_field(reason: &mut Reason, field: Field, value: u32) -> Result<(), Memo
 fn write_header(reason: &mut Reason, number: u16) -> Result<(), Memory>
     ensures { OnOk result (reason.new ≡ header_reason reason.old number) }
 {
-    reason.text("program header ")?;
-    reason.number(u64::from(number))?;
-    reason.text(": ")
+    reason.counted("program header ", u64::from(number), ": ")
 }
 
 #[tactic(auto, unfolding(crate::specs::Programs::larger))]
@@ -69,9 +67,11 @@ fn write_larger(reason: &mut Reason, header: Option<Header>) -> Result<(), Memor
         return reason.text("it has more bytes in the file than in memory");
     };
     reason.number(u64::from(header.file_size))?;
-    reason.text(" bytes in the file are more than its ")?;
-    reason.number(u64::from(header.memory_size))?;
-    reason.text(" in memory")
+    reason.counted(
+        " bytes in the file are more than its ",
+        u64::from(header.memory_size),
+        " in memory",
+    )
 }
 
 /// The end of memory that a segment passes.
@@ -112,16 +112,14 @@ fn is_assembly(line: &[u8]) -> bool
 fn write_word_line(reason: &mut Reason, line: Option<&[u8]>) -> Result<(), Memory>
     ensures { OnOk result (reason.new ≡ word_line reason.old (option_map (λ line. line.now) line.entry)) }
 {
-    match line {
-        None => reason.text("this line isn't eight hexadecimal digits"),
-        Some(line) if is_assembly(line) => {
-            reason.text("this is assembler; safetynet asm turns it into words")
-        }
-        Some(line) => {
-            reason.quoted(line)?;
-            reason.text(" isn't eight hexadecimal digits")
-        }
+    let Some(line) = line else {
+        return reason.text("this line isn't eight hexadecimal digits");
+    };
+    if is_assembly(line) {
+        return reason.text("this is assembler; safetynet asm turns it into words");
     }
+    reason.quoted(line)?;
+    reason.text(" isn't eight hexadecimal digits")
 }
 
 /// Whether the file is a text of hexadecimal words.
@@ -150,9 +148,7 @@ fn write_entry(reason: &mut Reason, bytes: &[u8], entry: u32) -> Result<(), Memo
 fn write_overlap(reason: &mut Reason, earlier: u16, later: u16) -> Result<(), Memory>
     ensures { OnOk result (reason.new ≡ overlapping reason.old earlier later) }
 {
-    reason.text("program headers ")?;
-    reason.number(u64::from(earlier))?;
-    reason.text(" and ")?;
+    reason.counted("program headers ", u64::from(earlier), " and ")?;
     reason.number(u64::from(later))?;
     reason.text(" share a byte of memory")
 }
@@ -161,9 +157,7 @@ fn write_overlap(reason: &mut Reason, earlier: u16, later: u16) -> Result<(), Me
 fn write_truncated(reason: &mut Reason, needed: u64, found: u64) -> Result<(), Memory>
     ensures { OnOk result (reason.new ≡ truncation_reason reason.old needed found) }
 {
-    reason.text("the file ends after ")?;
-    reason.number(found)?;
-    reason.text(" bytes, and ")?;
+    reason.counted("the file ends after ", found, " bytes, and ")?;
     reason.number(needed)?;
     reason.text(" are needed")
 }

@@ -63,6 +63,15 @@ impl Reason {
         self.text(buffer.format(number))
     }
 
+    /// A number between two texts.
+    pub fn counted(&mut self, before: &str, number: u64, after: &str) -> Result<(), Memory>
+        ensures { OnOk result (self.new ≡ self.old ++ before.now ++ decimal number ++ after.now) }
+    {
+        self.text(before)?;
+        self.number(number)?;
+        self.text(after)
+    }
+
     /// A word as eight hexadecimal digits.
     pub fn word(&mut self, word: u32) -> Result<(), Memory>
         ensures { OnOk result (self.new ≡ self.old ++ hex_word word) }
@@ -166,9 +175,7 @@ impl Reason {
     pub fn too_long(&mut self, limit: u64) -> Result<(), Memory>
         ensures { OnOk result (self.new ≡ too_long self.old limit) }
     {
-        self.text("more than ")?;
-        self.number(limit)?;
-        self.text(" bytes")
+        self.counted("more than ", limit, " bytes")
     }
 
     /// How the line begins.

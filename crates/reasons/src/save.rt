@@ -59,18 +59,22 @@ fn write_set_full(reason: &mut Reason, line: Option<&[u8]>) -> Result<(), Memory
 fn write_not_legal(reason: &mut Reason, number: u64) -> Result<(), Memory>
     ensures { OnOk result (reason.new ≡ not_legal reason.old number) }
 {
-    reason.text("this program doesn't do the instruction of `rec` line ")?;
-    reason.number(number)?;
-    reason.text(" after those before it")
+    reason.counted(
+        "this program doesn't do the instruction of `rec` line ",
+        number,
+        " after those before it",
+    )
 }
 
 #[tactic(auto, unfolding(crate::specs::Saves::unread))]
 fn write_unread(reason: &mut Reason, node: NodeId) -> Result<(), Memory>
     ensures { OnOk result (reason.new ≡ unread reason.old node) }
 {
-    reason.text("node ")?;
-    reason.number(u64::from(node.number()))?;
-    reason.text(" has read bytes that its `given` lines don't give from the first on")
+    reason.counted(
+        "node ",
+        u64::from(node.number()),
+        " has read bytes that its `given` lines don't give from the first on",
+    )
 }
 
 fn line_of(cause: &SaveCause) -> Option<u64>

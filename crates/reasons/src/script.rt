@@ -84,9 +84,7 @@ fn write_out_of_range(
 ) -> Result<(), Memory>
     ensures { OnOk result (reason.new ≡ out_of_range reason.old kind nodes (option_map (λ line. line.now) line.entry)) }
 {
-    reason.text("a machine of ")?;
-    reason.number(u64::from(nodes))?;
-    reason.text(" nodes has ")?;
+    reason.counted("a machine of ", u64::from(nodes), " nodes has ")?;
     reason.text(lacking(kind))?;
     reason.seen(line)
 }

@@ -18,9 +18,7 @@ fn write_numbered(reason: &mut Reason, place: u64, line: Option<u64>) -> Result<
     let Some(line) = line else {
         return reason.text(": ");
     };
-    reason.text(" (line ")?;
-    reason.number(line)?;
-    reason.text("): ")
+    reason.counted(" (line ", line, "): ")
 }
 
 #[tactic(auto, unfolding(crate::specs::Verdicts::saw))]

@@ -18,9 +18,8 @@ use Rattle.sn_model.specs.Fabric.{Fabric, Flight, FabricStep, node_at, step_refu
 use Rattle.sn_model.specs.FabricEvents.{moved_by, Deliver}
 use Rattle.sn_model.specs.Net.{flight_of}
 use Rattle.sn_model.specs.NetEvents.{outcome_of, delivers, delivers_flight, step_of_delivery}
-use Rattle.fabric_bounds.specs.CacheEvents.{comes_to_cache}
+use Rattle.sn_model.specs.Receivers.{comes_to_cache, comes_to_home}
 use Rattle.fabric_bounds.specs.Coherent.{Keeps}
-use Rattle.fabric_bounds.specs.Met.{comes_to_home}
 use Rattle.fabric_bounds.specs.Steps.{IsInFlight}
 use Rattle.fabric_bounds.proofs.InFlight.{in_flight}
 use Rattle.sn_fabric.specs.declared.receiver.Receiver.TheVariants.{Cache, Home, Controller, Clock}

@@ -12,7 +12,7 @@ use Rattle.switch_net.specs.Net.{find_flight, take_answer}
 use Rattle.sn_model.specs.Fabric.{Fabric, Flight, Node, FabricStep, node_at, step_refused}
 use Rattle.sn_model.specs.Net.{flight_of, is_there}
 use Rattle.sn_model.specs.NetEvents.{Outcome, Busy, AtCache, AtHome, Noted, outcome_of, delivers, delivers_flight, step_of_delivery}
-use Rattle.fabric_bounds.specs.Met.{answer_to}
+use Rattle.sn_model.specs.NetEvents.{answer_to}
 use Rattle.sn_fabric.specs.declared.node.NodeUnit.{NodeUnit}
 use Rattle.sn_fabric.specs.declared.receiver.Receiver.TheVariants.{Controller, Clock}
 use Rattle.sn_fabric.specs.Deliveries.{receiver_of, HasCome, fault_as}

@@ -8,12 +8,12 @@ use Rattle.sn_base.specs.declared.config.Config.{Config}
 use Rattle.sn_base.specs.declared.log.Old.{Old}
 use Rattle.sn_base.specs.declared.log.Old.TheVariants.{Owned}
 use Rattle.rollback.specs.Unwound.{contents_with_old}
-use Rattle.sn_model.specs.Caches.{Line, Cache, no_line, line_of, is_present, empty_cache, block_count}
+use Rattle.sn_model.specs.Caches.{Line, Cache, no_line, line_of, is_present, empty_cache, block_count, FitsSets}
 use Rattle.sn_model.specs.Cuts.{owned_content}
 use Rattle.sn_model.specs.PointEvents.{restored_line}
 use Rattle.sn_saved.specs.Resumed.{content_owned, lines_owned, cache_resumed}
 use Rattle.sn_saved.specs.Saved.{AreAscending, owner_in, owned_in, full_from}
-use Rattle.mosi_cache.specs.Controller.{CacheData, FitsSets}
+use Rattle.mosi_cache.specs.Controller.{CacheData}
 use Rattle.mosi_cache.specs.PartsFit.{fits-part, fits-within, holding-at}
 use Rattle.mosi_cache.specs.Restored.{begun_line, held_of, old_of, line_holding, cache_holding, HeldFits, HasOnlyModified, StaysAsItIs}
 use Rattle.fabric_bounds.proofs.KeptResumed.{length-lines_owned, line_resumed}

@@ -32,9 +32,9 @@ use Rattle.sn_model.specs.NodeEvents.{step_of_report}
 use Rattle.sn_model.specs.NetEvents.{AtCache, AtHome, logged_at, kept_at, unless_busy, outcome_of, node_after, node_after_news, delivers}
 use Rattle.sn_model.specs.NetEvents.{delivers_flight, hops, hops_to, loses, step_of_kill}
 use Rattle.sn_model.specs.PointEvents.{step_of_advance, fabric_restored_to, recovers, living_switches}
+use Rattle.sn_model.specs.Receivers.{comes_to_home}
 use Rattle.fabric_bounds.specs.Coherent.{FabricInvariant}
 use Rattle.fabric_bounds.specs.Events.{MayBe}
-use Rattle.fabric_bounds.specs.Met.{comes_to_home}
 use Rattle.fabric_bounds.specs.Steps.{IsInFlight}
 use Rattle.fabric_bounds.specs.View.{GhostState}
 use Rattle.fabric_bounds.proofs.InFlight.{in_flight}

@@ -11,7 +11,7 @@ use Rattle.sn_model.specs.declared.cache.Out.{Out}
 use Rattle.sn_model.specs.declared.net.Sent.{Sent}
 use Rattle.sn_model.specs.declared.cache.LineState.TheVariants.{Shared, Modified, Exclusive}
 use Rattle.sn_model.specs.Caches.{Miss, with_line}
-use Rattle.sn_model.specs.CacheRows.{Logged, send, reply_or_wait, reply_or_wait_by, reply_when_complete, reply_that_waits, fixed_at}
+use Rattle.sn_model.specs.CacheRows.{Logged, send, reply_or_wait, reply_or_wait_by, reply_when_complete, reply_that_waits, fixed_at, row_by}
 use Rattle.sn_model.specs.CacheRows.{miss_with_ack, taken_over}
 use Rattle.sn_model.specs.HomeRows.{invalidations}
 use Rattle.sn_model.specs.Fabric.{Net}
@@ -20,7 +20,7 @@ use Rattle.home_directory.specs.declared.step.HomeStep.{HomeStep}
 use Rattle.home_directory.specs.declared.step.HomeStep.TheVariants as home
 use Rattle.home_directory.specs.Receipt as receipt
 use Rattle.home_directory.specs.Receipt.{sends_of}
-use Rattle.mosi_cache.specs.Rows.{row_by, first_of}
+use Rattle.mosi_cache.specs.Rows.{first_of}
 use Rattle.sn_fabric.specs.Deliveries.{outs_of, invalidation, invalidations_below, home_outs, GoTo}
 
 -- two lists that are sent one after the other

@@ -18,13 +18,12 @@ use Rattle.rollback.specs.Unwound.{content_unwound}
 use Rattle.route_plan.specs.Routes.{first_cut_off}
 use Rattle.switch_net.specs.Net.{NetData, living_now}
 use Rattle.sn_model.specs.declared.net.Sent.{Sent}
-use Rattle.sn_model.specs.Caches.{block_count}
+use Rattle.sn_model.specs.Caches.{block_count, FitsSets}
 use Rattle.sn_model.specs.Homes.{HomeEntry}
 use Rattle.sn_model.specs.Fabric as model
 use Rattle.sn_model.specs.Fabric.{Fabric, Node, node_at, home_of, no_entry, step_with_answer}
 use Rattle.sn_model.specs.FabricEvents.{moved_by, Recover}
 use Rattle.sn_model.specs.PointEvents.{restored_node, log_of_home, restored_homes, fabric_restored_to, undone_count, living_switches, recovers, step_of_recovery}
-use Rattle.mosi_cache.specs.Controller.{FitsSets}
 use Rattle.home_directory.specs.Home.{HomeData, entry_of, places_of}
 use Rattle.home_directory.specs.Restored.{begun_restore, had, is_here, Stays}
 use Rattle.home_directory.proofs.Restored.{length-cleared, restored-is}

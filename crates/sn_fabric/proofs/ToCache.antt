@@ -10,18 +10,19 @@ use Rattle.switch_net.specs.Net.{NetData}
 use Rattle.mosi_cache.specs.declared.step.CacheStep.{CacheStep}
 use Rattle.mosi_cache.specs.declared.step.CacheStep.TheVariants.{Took, LogFull}
 use Rattle.mosi_cache.specs.Controller.{with_entries}
-use Rattle.mosi_cache.specs.Rows.{MeetsRow, NotesInLogOrder, noted_in, row_by, row_of, first_of, is_over, look_by, step_by}
+use Rattle.mosi_cache.specs.Rows.{row_of, first_of, is_over, look_by, step_by}
 use Rattle.mosi_cache.proofs.Agrees.{row-agrees}
 use Rattle.sn_model.specs.declared.cache.Out.{Out}
 use Rattle.sn_model.specs.declared.look.Look.{Look}
 use Rattle.sn_model.specs.declared.net.Sent.{Sent}
 use Rattle.sn_model.specs.declared.net.News.{News}
-use Rattle.sn_model.specs.CacheRows.{CacheReply}
+use Rattle.sn_model.specs.CacheRows.{CacheReply, MeetsRow, noted_in, row_by}
 use Rattle.sn_model.specs.Fabric.{Fabric, Node, Net, FabricStep, node_at, with_node, with_net, home_node}
 use Rattle.sn_model.specs.FabricEvents.{Deliver}
 use Rattle.sn_model.specs.Net.{net_after_sends, sent_by, sending, without_flight}
-use Rattle.sn_model.specs.NetEvents.{AtCache, logged_at, node_after, copy_lost, outcome_of, delivers, step_of_delivery}
-use Rattle.fabric_bounds.specs.Met.{MeetsCache, answer_to}
+use Rattle.sn_model.specs.NetEvents.{AtCache, logged_at, node_after, copy_lost, outcome_of, delivers, step_of_delivery, answer_to}
+use Rattle.sn_model.specs.Receivers.{IsNoteInOrder}
+use Rattle.fabric_bounds.specs.Met.{MeetsCache}
 use Rattle.fabric_bounds.specs.Steps.{after_cache}
 use Rattle.fabric_bounds.proofs.RowsMet.{meets_cache}
 use Rattle.sn_fabric.specs.declared.node.NodeUnit.{NodeUnit}
@@ -57,10 +58,10 @@ module _ (config : Config) (p : Parts) (a : AreParts config p) (m : Message) (h 
   pub cache-row : MeetsRow (with_entries x.cache x.log.entries) m.block m.body
   cache-row = subst (λ (y : Node). MeetsRow (record { cache = y.cache; log = y.log }) m.block m.body) read meets.0
 
-  pub cache-last : NotesInLogOrder x.log.entries m.block (noted_in now m.tag m.body)
+  pub cache-last : IsNoteInOrder x.log.entries false m.block (noted_in now m.tag m.body)
   cache-last =
-      subst (λ (i : ℕ). NotesInLogOrder x.log.entries m.block (noted_in i m.tag m.body)) (sym en)
-      (subst (λ (y : Node). NotesInLogOrder y.log m.block (noted_in y.now m.tag m.body)) read meets.1)
+      subst (λ (i : ℕ). IsNoteInOrder x.log.entries false m.block (noted_in i m.tag m.body)) (sym en)
+      (subst (λ (y : Node). IsNoteInOrder y.log false m.block (noted_in y.now m.tag m.body)) read meets.1)
 
   -- what it replies is the machine's
   abbrev reply : CacheReply

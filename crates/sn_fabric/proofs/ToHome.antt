@@ -1,5 +1,5 @@
 -- What a delivery to a home comes to, by what the parts say.
-use Rattle.std.proofs.Common.{◌≡◌, ℕ, ◌+◌, ◌%◌, ◌<◌, ◌≤◌, Bool, List, length, get_or, set, refl, sym, ap, ◌∙◌, subst, length-set}
+use Rattle.std.proofs.Common.{◌≡◌, ℕ, ◌+◌, ◌%◌, ◌<◌, ◌≤◌, Bool, true, List, length, get_or, set, refl, sym, ap, ◌∙◌, subst, length-set}
 use Rattle.std.specs.Prelude.{nat_lt, if◌then◌else◌, None}
 use Rattle.std.proofs.lemmas.List.{length-map, map-set, get_or-set_same, get_or_read}
 use Rattle.sn_base.specs.declared.config.Config.{Config}
@@ -9,18 +9,19 @@ use Rattle.sn_msg.specs.declared.Message.{Message}
 use Rattle.switch_net.specs.Net.{NetData}
 use Rattle.home_directory.specs.declared.step.HomeStep.{HomeStep}
 use Rattle.home_directory.specs.Home.{HomeData, entry_of, with_entry}
-use Rattle.home_directory.specs.Receipt.{entry_as_it_is, HasRowAt, IsNoteInOrder, NotesInOrder, noting, HasRow, Verdict, Does, LacksRoom, verdict_on, left_by}
+use Rattle.home_directory.specs.Receipt.{entry_as_it_is, HasRowAt, NotesInOrder, Verdict, Does, LacksRoom, verdict_on, left_by}
 use Rattle.home_directory.specs.Receipt.{look_of, outcome_at, receipt_of, Tells}
 use Rattle.home_directory.proofs.Agrees.{outcome_agrees}
 use Rattle.sn_model.specs.declared.look.Look.{Look}
 use Rattle.sn_model.specs.declared.net.Sent.{Sent}
 use Rattle.sn_model.specs.Homes.{HomeEntry}
-use Rattle.sn_model.specs.HomeRows.{LoggedEntry, HomeReply}
+use Rattle.sn_model.specs.HomeRows.{LoggedEntry, HomeReply, noting, HasRow}
 use Rattle.sn_model.specs.Fabric.{Fabric, Node, Net, FabricStep, node_at, home_of, with_net}
 use Rattle.sn_model.specs.FabricEvents.{Deliver}
 use Rattle.sn_model.specs.Net.{net_after_sends, sent_by, sending, without_flight}
-use Rattle.sn_model.specs.NetEvents.{Outcome, kept_at, home_after, outcome_of, delivers, step_of_delivery}
-use Rattle.fabric_bounds.specs.Met.{MeetsHome, answer_to}
+use Rattle.sn_model.specs.NetEvents.{Outcome, kept_at, home_after, outcome_of, delivers, step_of_delivery, answer_to}
+use Rattle.sn_model.specs.Receivers.{IsNoteInOrder}
+use Rattle.fabric_bounds.specs.Met.{MeetsHome}
 use Rattle.fabric_bounds.specs.Steps.{IsInFlight, after_home}
 use Rattle.fabric_bounds.proofs.RowsMet.{meets_home}
 use Rattle.sn_fabric.specs.declared.node.NodeUnit.{NodeUnit}
@@ -90,9 +91,9 @@ module _ (config : Config) (p : Parts) (a : AreParts config p) (m : Message) (h 
 
   pub home-last : NotesInOrder home x.log now m
   home-last =
-      subst (λ (i : ℕ). IsNoteInOrder x.log.entries (noting (entry_of home m.block) i m m.body) m.block) (sym en)
-      (subst (λ (y : Node). IsNoteInOrder y.log (noting (entry_of home m.block) y.now m m.body) m.block) read
-      (subst (λ (e : HomeEntry). IsNoteInOrder (node_at s m.to).log (noting e (node_at s m.to).now m m.body) m.block) entry_is meets.2))
+      subst (λ (i : ℕ). IsNoteInOrder x.log.entries true m.block (noting (entry_of home m.block) i m m.body)) (sym en)
+      (subst (λ (y : Node). IsNoteInOrder y.log true m.block (noting (entry_of home m.block) y.now m m.body)) read
+      (subst (λ (e : HomeEntry). IsNoteInOrder (node_at s m.to).log true m.block (noting e (node_at s m.to).now m m.body)) entry_is meets.2))
 
   -- what it makes of it is the machine's
   abbrev at : LoggedEntry

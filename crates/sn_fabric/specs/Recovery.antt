@@ -2,9 +2,8 @@
 use Rattle.std.specs.Prelude.{◌≡◌, ℕ, ◌<◌, ◌^◌, true, false, List, [], length, None}
 use Rattle.log_buffer.specs.Log.{LogEntry, old_at, entries_from}
 use Rattle.rollback.specs.Unwound.{content_unwound}
-use Rattle.sn_model.specs.Caches.{block_count}
+use Rattle.sn_model.specs.Caches.{block_count, FitsSets}
 use Rattle.sn_model.specs.PointEvents.{restored_cache}
-use Rattle.mosi_cache.specs.Controller.{FitsSets}
 use Rattle.home_directory.specs.Home.{HomeData}
 use Rattle.home_directory.specs.Restored.{begun_restore, had, is_here, Stays}
 use Rattle.sn_fabric.specs.declared.node.NodeUnit.{NodeUnit}

@@ -1,11 +1,12 @@
 //! A delivery: a message that has arrived is taken by its receiver's cache or home, or heard of by the layer above.
-ghost use Rattle.std.specs.Prelude.{◌≡◌, ◌+◌, ◌<◌, ◌≤◌, ◌^◌, Some, None};
+ghost use Rattle.std.specs.Prelude.{◌≡◌, ◌+◌, ◌<◌, ◌≤◌, false, ◌^◌, Some, None};
 ghost use Rattle.sn_base.specs.declared.event.Answer.TheVariants.{Delivered};
 ghost use Rattle.sn_model.specs.Fabric.{node_at};
-ghost use Rattle.sn_model.specs.NetEvents.{step_of_delivery};
-ghost use Rattle.fabric_bounds.specs.Met.{answer_to};
+ghost use Rattle.sn_model.specs.NetEvents.{step_of_delivery, answer_to};
+ghost use Rattle.sn_model.specs.CacheRows.{MeetsRow, noted_in};
+ghost use Rattle.sn_model.specs.Receivers.{IsNoteInOrder};
 ghost use Rattle.mosi_cache.specs.Controller.{with_entries};
-ghost use Rattle.mosi_cache.specs.Rows.{row_of, MeetsRow, NotesInLogOrder, noted_in, step_by};
+ghost use Rattle.mosi_cache.specs.Rows.{row_of, step_by};
 ghost use Rattle.sn_fabric.specs.Fabric.{IsAfter};
 ghost use Rattle.sn_fabric.specs.Deliveries.{receiver_of, HasCome, fault_as, look_answer, unit_after};
 
@@ -46,7 +47,7 @@ fn receive(unit: &mut NodeUnit, message: &Message, now: Interval) -> CacheStep
     requires here { message.now.to ≡ unit.old.cache.node }
     requires come { message.now.tag ≤ now }
     requires row { MeetsRow (with_entries unit.old.cache unit.old.log.entries) message.now.block message.now.body }
-    requires last { NotesInLogOrder unit.old.log.entries message.now.block (noted_in now message.now.tag message.now.body) }
+    requires last { IsNoteInOrder unit.old.log.entries false message.now.block (noted_in now message.now.tag message.now.body) }
     ensures answer { result ≡ step_by unit.old.log (row_of unit.old.cache unit.old.log now message.now) }
     ensures unit { unit.new ≡ unit_after unit.old (row_of unit.old.cache unit.old.log now message.now) }
 {

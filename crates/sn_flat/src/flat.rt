@@ -1,7 +1,8 @@
 //! The machine and its steps.
 ghost use Rattle.std.specs.Prelude.{◌≡◌, ◌+◌, ◌%◌, ◌<◌, ◌≤◌, ◌↔◌, length, map, Some, IfSome, IfOk, IsOk, OnErr, OnOk, IsTrue, is_some};
-ghost use Rattle.std.specs.Prelude.{true, ◌*◌, take, drop};
+ghost use Rattle.std.specs.Prelude.{true, ◌*◌, ◌++◌, ◌^◌, take, drop, replicate};
 ghost use Rattle.sn_base.specs.Blocks.{ram_start, ram_size, bytes_of};
+ghost use Rattle.sn_base.specs.Image.{bytes_from};
 ghost use Rattle.rv_core.specs.Core.{start_of, block_of, is_input, holds_reservation};
 ghost use Rattle.sn_flat.specs.Reservations.{without};
 ghost use Rattle.rv_core.specs.Wanted.{IsInside, IsAddress};
@@ -10,7 +11,9 @@ ghost use Rattle.rv_core.specs.Flat.{after_write, next_by};
 
 use byteorder::{ByteOrder, LittleEndian};
 use rv_core::{CoreState, End, Record, Want};
-use sn_base::{Block, BlockNo, Image, Memory, NodeId, RAM_SIZE, RAM_START, Width, Write};
+use sn_base::{
+    BLOCK_SIZE, BLOCKS, Block, BlockNo, Image, Memory, NodeId, RAM_SIZE, RAM_START, Width, Write,
+};
 use std::alloc::Global;
 use std::marker::Model;
 
@@ -232,10 +235,50 @@ fn first_memory(alloc: Global, image: &Image) -> Result<Vec<u8>, Memory>
     ensures { IfOk result (λ memory. memory.items ≡ initial_memory image.now) }
 {
     let mut memory = Vec::with_capacity(alloc, RAM_SIZE as usize)?;
-    'bytes: for place in 0..RAM_SIZE {
-        memory.push(image.byte(RAM_START + place))?;
+    'numbers: for number in 0..BLOCKS {
+        push_block(&mut memory, image, block_of_number(number))?;
     }
     Ok(memory)
+}
+
+fn block_of_number(number: usize) -> BlockNo
+    requires { number < 65536 }
+    ensures { result ≡ number }
+{
+    BlockNo::new(number as u16)
+}
+
+/// Adds the bytes that a block begins with.
+fn push_block(memory: &mut Vec<u8>, image: &Image, block: BlockNo) -> Result<(), Memory>
+    ensures { OnOk result (memory.new.items ≡ memory.old.items ++ bytes_from 64 image.now.segments (ram_start + 64 * block)) }
+{
+    // Most blocks are given nothing, and there are 65,536.
+    if is_zero(&image.block(block)) {
+        memory.extend_from_slice(&[0; 64])?;
+        return Ok(());
+    }
+    push_bytes(
+        memory,
+        image,
+        RAM_START + BLOCK_SIZE * u32::from(block.number()),
+    )
+}
+
+fn is_zero(block: &Block) -> bool
+    ensures { result ≡ true → block.now ≡ replicate 64 0 }
+{
+    *block == Block::zero()
+}
+
+/// Adds the 64 bytes from an address on, one by one.
+fn push_bytes(memory: &mut Vec<u8>, image: &Image, start: u32) -> Result<(), Memory>
+    requires { start + 64 < 2 ^ 32 }
+    ensures { OnOk result (memory.new.items ≡ memory.old.items ++ bytes_from 64 image.now.segments start) }
+{
+    'bytes: for place in 0..BLOCK_SIZE {
+        memory.push(image.byte(start + place))?;
+    }
+    Ok(())
 }
 
 fn starting_cores(alloc: Global, entry: u32, nodes: u8) -> Result<Vec<CoreState>, Memory>

@@ -1,5 +1,5 @@
 -- What a node's step comes to.
-use Rattle.std.proofs.Common.{◌≡◌, ◌≢◌, ℕ, ◌<◌, ◌≤◌, Bool, true, false, not, ◌&&◌, nat_le, if◌then◌else◌, List, length, get_or, Some, None}
+use Rattle.std.proofs.Common.{◌≡◌, ◌≢◌, ℕ, ◌<◌, ◌≤◌, Bool, true, false, not, ◌&&◌, nat_le, if◌then◌else◌, List, length, get_or, Some, None, Result}
 use Rattle.std.proofs.Common.{refl, sym, ap, ◌∙◌, subst, arith}
 use Rattle.std.specs.Prelude.{nat_lt, slice_index}
 use Rattle.std.proofs.lemmas.Bool.Decides.{nat_tests}
@@ -7,11 +7,14 @@ use Rattle.sn_base.specs.Image.{ImageData}
 use Rattle.sn_base.specs.declared.config.Config.{Config}
 use Rattle.sn_base.specs.declared.event.Answer.{Answer}
 use Rattle.sn_base.specs.declared.event.Answer.TheVariants.{Retired, Missed, Waits, NeedsEvict, LogFull, NetFull}
+use Rattle.rv_decode.specs.declared.instr.Instr.{Instr}
+use Rattle.rv_core.specs.declared.state.Cause.{Cause}
 use Rattle.rv_core.specs.declared.state.CoreState.{CoreState}
+use Rattle.rv_core.specs.declared.step.Record.{Record}
 use Rattle.rv_core.specs.declared.step.Want.{Want}
-use Rattle.rv_core.specs.declared.step.Want.TheVariants.{Load, Store, Amo, Lr, Sc}
+use Rattle.rv_core.specs.declared.step.Want.TheVariants.{Nothing, Load, Store, Amo, Lr, Sc, Input}
 use Rattle.rv_core.specs.Core.{block_of, is_reserved, is_running}
-use Rattle.rv_core.specs.Step.{want_of}
+use Rattle.rv_core.specs.Step.{want_of, wants_next}
 use Rattle.rv_core.specs.Wanted.{IsAddress, IsInside}
 use Rattle.rv_core.proofs.CoreLaws.{want_inside}
 use Rattle.sn_history.specs.History as history
@@ -32,7 +35,7 @@ use Rattle.sn_machine.specs.declared.steps.NodeStep.TheVariants.{Retires, Misses
 use Rattle.sn_machine.specs.declared.processor.Processor.{Processor as ProcessorUnit}
 use Rattle.sn_machine.specs.declared.hardware.Hardware.{Hardware}
 use Rattle.sn_machine.specs.Parts.{state_of, IsWhole}
-use Rattle.sn_machine.specs.Turns.{ComesTo, IsAccess, IsConditional}
+use Rattle.sn_machine.specs.Turns.{IsNext, ComesTo, IsAccess, IsConditional, IsInput}
 use Rattle.sn_machine.proofs.Parts.{processor-at, is_here, unit-read}
 use Rattle.sn_machine.proofs.Lists.{taken-is}
 
@@ -149,8 +152,27 @@ module _ (image : ImageData) (config : Config) (s : State) (n : ℕ) (l : n < le
           (subst IsInside e (want_inside image (processor_at s n).core)) (rw q refl) (rw q refl) (λ can. can) turn (h.done q)
       go false q = rw (h.undone q) (unreserved q)
 
+  pub nothing-comes : (did : Record) → want_of image (processor_at s n).core ≡ Nothing → did ≡ record_with n nothing_found →
+      ComesTo image config s n (step_of_instruction image config s n) (Retires did)
+  nothing-comes did e is = (can-retire Nothing e tt, is ∙ ap (record_with n) (ap (found_by s n) (sym e)), step_is Nothing e)
+
+  pub input-comes : (turn : NodeStep) → want_of image (processor_at s n).core ≡ Input → IsInput s n turn →
+      ComesTo image config s n (step_of_instruction image config s n) turn
+  input-comes turn e h = go (nat_lt (taken_by s n) (length (processor_at s n).given)) refl
+    where
+      go : (more : Bool) → nat_lt (taken_by s n) (length (processor_at s n).given) ≡ more →
+          ComesTo image config s n (step_of_instruction image config s n) turn
+      go true q = rw h (rw q (can-retire Input e (grind (arith, nat_tests)), rw e (rw q refl), step_is Input e ∙ rw q refl))
+      go false q = rw h (rw q (step_is Input e ∙ rw q refl))
+
 pub inside-of : (image : ImageData) (core : CoreState) (found v : Want) → found ≡ want_of image core → found ≡ v → IsInside v
 inside-of image core found v e is = subst IsInside (sym e ∙ is) (want_inside image core)
+
+-- an instruction that is next wants what its core wants
+pub wants-next : (image : ImageData) (s : State) (n : ℕ) (instruction : Result Instr Cause) → IsNext image s n instruction →
+    wants_next image instruction (processor_at s n).core ≡ want_of image (processor_at s n).core
+unfolding want_of
+wants-next image s n instruction next = ap (λ i. wants_next image i (processor_at s n).core) next.same
 
 -- what the code asks of a processor that it read, of that node
 
@@ -159,15 +181,15 @@ module _ (h : Hardware) (n place : ℕ) (x : ProcessorUnit) (w : IsWhole h) (l :
   core-read =
       ap (λ (y : ProcessorUnit). y.core) (unit-read h n place x w l i r) ∙ ap (λ (p : Processor). p.core) (sym (processor-at h n (is_here h n w l)))
 
-  pub running-read : (b : Bool) → b ≡ is_running x.core.end → b ≡ true → is_running (processor_at (state_of h) n).core.end ≡ true
-  running-read b e is = ap (λ (c : CoreState). is_running c.end) (sym core-read) ∙ sym e ∙ is
+  pub want-read : (image : ImageData) (instruction : Result Instr Cause) (found v : Want) → IsNext image (state_of h) n instruction →
+      found ≡ wants_next image instruction x.core → found ≡ v → want_of image (processor_at (state_of h) n).core ≡ v
+  want-read image instruction found v next e is =
+      sym (wants-next image (state_of h) n instruction next) ∙ ap (wants_next image instruction) (sym core-read) ∙ sym e ∙ is
 
-  pub want-read : (image : ImageData) (found v : Want) → found ≡ want_of image x.core → found ≡ v →
-      want_of image (processor_at (state_of h) n).core ≡ v
-  want-read image found v e is = ap (want_of image) (sym core-read) ∙ sym e ∙ is
-
-  pub inside-read : (image : ImageData) (found v : Want) → found ≡ want_of image x.core → found ≡ v → IsInside v
-  inside-read image found v e is = subst IsInside (sym e ∙ is) (want_inside image x.core)
+  pub inside-read : (image : ImageData) (instruction : Result Instr Cause) (found v : Want) → IsNext image (state_of h) n instruction →
+      found ≡ wants_next image instruction x.core → found ≡ v → IsInside v
+  inside-read image instruction found v next e is =
+      subst IsInside (want-read image instruction found v next e is) (want_inside image (processor_at (state_of h) n).core)
 
 -- the next byte of input
 

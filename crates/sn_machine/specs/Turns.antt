@@ -1,17 +1,21 @@
 -- What a node's step comes to, before it is done.
-use Rattle.std.specs.Prelude.{◌≡◌, ℕ, ◌+◌, ◌<◌, ◌≤◌, ◌++◌, ◌%◌, true, false, map, Option, Some, None, ⊤}
+use Rattle.std.specs.Prelude.{◌≡◌, ℕ, ◌+◌, ◌<◌, ◌≤◌, ◌++◌, ◌%◌, true, false, map, Option, Some, None, Result, IfOk, ⊤}
 use Rattle.sn_base.specs.Blocks.{ram_start, ram_size, bytes_of}
-use Rattle.sn_base.specs.Image.{ImageData}
+use Rattle.sn_base.specs.Image.{ImageData, word_fetched}
 use Rattle.sn_base.specs.declared.block.Write.{Write as Written}
 use Rattle.sn_base.specs.declared.config.Config.{Config}
 use Rattle.sn_base.specs.declared.event.Answer.TheVariants.{Missed, Retired as WasRetired, NoInput}
 use Rattle.output_commit.specs.Output.{Output}
-use Rattle.rv_core.specs.Core.{block_of, is_reserved}
+use Rattle.rv_decode.specs.declared.instr.Instr.{Instr}
+use Rattle.rv_decode.specs.Table.{instr_fits}
+use Rattle.rv_core.specs.declared.state.Cause.{Cause}
+use Rattle.rv_core.specs.Core.{block_of, is_reserved, is_running}
+use Rattle.rv_core.specs.Step.{instruction_of}
 use Rattle.sn_model.specs.declared.cache.Need.{Need}
 use Rattle.sn_model.specs.declared.cache.Need.TheVariants.{Write}
 use Rattle.sn_model.specs.Fabric.{Fabric, node_at}
 use Rattle.sn_model.specs.Fabric as fabric
-use Rattle.sn_model.specs.Access.{step_of_access, lacks_room}
+use Rattle.sn_model.specs.Access.{step_of_access, lacks_room, has_miss}
 use Rattle.sn_model.specs.Machine.{State, processor_at}
 use Rattle.sn_model.specs.Instructions.{FoundOutside, MachineStep, nothing_found, next_byte, is_retired, machine_step_refused, machine_step_of, step_of_retirement, record_with}
 use Rattle.sn_model.specs.Instructions.{found_at, held_in}
@@ -20,6 +24,16 @@ use Rattle.consistent_cuts.specs.Accesses.{CanRetire}
 use Rattle.sn_machine.specs.Parts.{held_as}
 use Rattle.sn_machine.specs.declared.steps.NodeStep.{NodeStep}
 use Rattle.sn_machine.specs.declared.steps.NodeStep.TheVariants.{Retires, Misses, Refused}
+
+-- node n may do its next instruction, whichever it is: its core runs, and it waits for no block
+pub record MayGoOn (s : State) (n : ℕ) : Type 0 where
+  pub running : is_running (processor_at s n).core.end ≡ true
+  pub no_miss : has_miss (node_at s.fabric n).cache.miss ≡ false
+
+-- the instruction of the word at the program counter of node n's core, or why there is none
+pub record IsNext (image : ImageData) (s : State) (n : ℕ) (instruction : Result Instr Cause) : Type 0 where
+  pub same : instruction ≡ instruction_of (word_fetched image.segments (processor_at s n).core.pc)
+  pub fits : IfOk instruction (λ instr. instr_fits instr ≡ true)
 
 -- a step of node n that comes to x: it retires, it misses, or it is refused
 abbrev pub ComesTo : ImageData → Config → State → ℕ → MachineStep → NodeStep → Type 0

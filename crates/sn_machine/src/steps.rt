@@ -1,21 +1,24 @@
 //! A node's step: its core's next instruction.
-ghost use Rattle.std.specs.Prelude.{◌≡◌, ◌<◌, ◌≤◌, ◌+◌, length, true, false, None};
+ghost use Rattle.std.specs.Prelude.{◌≡◌, ◌<◌, ◌≤◌, ◌+◌, length, true, false, None, IfSome, IsNone};
 ghost use Rattle.sn_base.specs.Blocks.{ram_start, ram_size};
+ghost use Rattle.sn_base.specs.Image.{ImageData};
 ghost use Rattle.rv_core.specs.Core.{block_of};
 ghost use Rattle.rv_core.specs.Step.{want_of};
 ghost use Rattle.sn_model.specs.Access.{step_of_access, word_found};
 ghost use Rattle.sn_model.specs.Fabric.{node_at};
 ghost use Rattle.sn_model.specs.Machine.{processor_at};
 ghost use Rattle.sn_model.specs.Instructions.{step_of_retirement, step_of_instruction, machine_step_of, record_with, found_at, nothing_found, written_by};
+ghost use Rattle.sn_model.specs.Instructions.{machine_step_refused};
 ghost use Rattle.consistent_cuts.specs.Accesses.{CanRetire};
 ghost use Rattle.sn_machine.specs.Parts.{state_of, IsWhole, HasRoom, Does, held_as};
 ghost use Rattle.sn_machine.specs.Sound.{IsSound};
-ghost use Rattle.sn_machine.specs.Turns.{ComesTo, IsAccess, IsConditional, IsInput, CanWriteAny, PutsOut};
+ghost use Rattle.sn_machine.specs.Turns.{MayGoOn, IsNext, ComesTo, IsAccess, IsConditional, IsInput, CanWriteAny, PutsOut};
 
 use crate::hardware::Hardware;
 use crate::processor::is_reserved;
 use output_commit::OutBuffer;
-use rv_core::{Record, Want};
+use rv_core::{Cause, Record, Want};
+use rv_decode::Instr;
 use sn_base::{Answer, BlockNo, Image, Interval, NodeId, Write};
 use sn_fabric::{Fabric, Need};
 
@@ -78,8 +81,13 @@ impl Hardware {
         requires room { HasRoom 1 self.old }
         ensures { Does self.old self.new result (step_of_instruction image.now self.old.fabric.config (state_of self.old) node) }
     {
-        match self.look(image, node) {
-            NodeStep::Retires(did) => self.retire(image, node, did),
+        if let Some(answer) = self.refusal(node) {
+            self.is_carried = false;
+            return answer;
+        }
+        let instruction = self.instruction(image, node);
+        match self.look(image, node, instruction) {
+            NodeStep::Retires(did) => self.retire(image, node, instruction, did),
             NodeStep::Misses(block, need) => self.miss(node, block, need),
             NodeStep::Refused(answer) => {
                 self.is_carried = false;
@@ -95,29 +103,57 @@ impl Hardware {
         requires here { node < length self.now.fabric.fabric.nodes }
         ensures { result ≡ (step_of_instruction image.now self.now.fabric.config (state_of self.now) node).answer }
     {
-        match self.look(image, node) {
+        if let Some(answer) = self.refusal(node) {
+            return answer;
+        }
+        let instruction = self.instruction(image, node);
+        match self.look(image, node, instruction) {
             NodeStep::Retires(_) => Answer::Retired,
             NodeStep::Misses(_, _) => Answer::Missed,
             NodeStep::Refused(answer) => answer,
         }
     }
 
-    /// What a node's step comes to.
-    pub fn look(&self, image: &Image, node: NodeId) -> NodeStep
+    /// Why a node does no instruction now, whichever comes next: its core has ended, or it waits for a block.
+    fn refusal(&self, node: NodeId) -> Option<Answer>
         requires whole { IsWhole self.now }
-        requires sound { IsSound (state_of self.now) }
         requires here { node < length self.now.fabric.fabric.nodes }
+        ensures some { IfSome result (λ answer. (image : ImageData) →
+            step_of_instruction image self.now.fabric.config (state_of self.now) node ≡ machine_step_refused (state_of self.now) answer) }
+        ensures none { IsNone result → MayGoOn (state_of self.now) node }
+    {
+        let core = &self.processors[usize::from(node.number())].core;
+        if !core.is_running() {
+            return Some(Answer::Ended);
+        }
+        if self.fabric.miss_open(node) {
+            return Some(Answer::Waits);
+        }
+        None
+    }
+
+    /// A node's next instruction, or why there is none. A step fetches and decodes it here alone.
+    fn instruction(&self, image: &Image, node: NodeId) -> Result<Instr, Cause>
+        requires whole { IsWhole self.now }
+        requires here { node < length self.now.fabric.fabric.nodes }
+        ensures { IsNext image.now (state_of self.now) node result }
+    {
+        self.processors[usize::from(node.number())]
+            .core
+            .instruction(image)
+    }
+
+    /// What the step of a node that may go on comes to.
+    fn look(&self, image: &Image, node: NodeId, instruction: Result<Instr, Cause>) -> NodeStep
+        requires whole { IsWhole self.now }
+        requires here { node < length self.now.fabric.fabric.nodes }
+        requires may { MayGoOn (state_of self.now) node }
+        requires next { IsNext image.now (state_of self.now) node instruction }
         ensures { ComesTo image.now self.now.fabric.config (state_of self.now) node
             (step_of_instruction image.now self.now.fabric.config (state_of self.now) node) result }
     {
         let core = &self.processors[usize::from(node.number())].core;
-        if !core.is_running() {
-            return NodeStep::Refused(Answer::Ended);
-        }
-        if self.fabric.miss_open(node) {
-            return NodeStep::Refused(Answer::Waits);
-        }
-        match core.want(image) {
+        match core.want_by(image, instruction) {
             Want::Nothing => NodeStep::Retires(quiet(node)),
             Want::Input => self.look_input(node),
             Want::Load(address) => self.look_load(node, address, Need::Read),
@@ -211,9 +247,16 @@ impl Hardware {
     }
 
     /// A node's instruction is done, and its record and its byte wait for the validation of its interval.
-    fn retire(&mut self, image: &Image, node: NodeId, did: Record) -> Answer
+    fn retire(
+        &mut self,
+        image: &Image,
+        node: NodeId,
+        instruction: Result<Instr, Cause>,
+        did: Record,
+    ) -> Answer
         requires whole { IsWhole self.old }
         requires can { CanRetire image.now self.old.fabric.config (state_of self.old) node }
+        requires next { IsNext image.now (state_of self.old) node instruction }
         requires found { did ≡ record_with node (found_at image.now (state_of self.old) node) }
         requires room { HasRoom 1 self.old }
         ensures { Does self.old self.new result (step_of_retirement image.now (state_of self.old) node) }
@@ -222,7 +265,7 @@ impl Hardware {
         let processor = &mut self.processors[usize::from(node.number())];
         let effect = processor
             .core
-            .finish(image, did.seen, did.sc_done, did.read);
+            .finish_by(image, instruction, did.seen, did.sc_done, did.read);
         write(&mut self.fabric, node, effect.write);
         put_out(&mut self.output, interval, effect.out);
         self.history.add(interval, did);

@@ -5,7 +5,8 @@ use Rattle.std.specs.Prelude.{◌≡◌, ℕ, ◌+◌, ◌<◌, Bool, true, fals
 use Rattle.sn_base.specs.declared.log.LogEntry.{LogEntry}
 use Rattle.sn_base.specs.declared.log.Old.TheVariants.{NotOwned, Owned as WasOwned}
 use Rattle.sn_msg.specs.declared.Body.{Body}
-use Rattle.sn_msg.specs.declared.Body.TheVariants.{DataS, DataM, InvAck, Unblock, PutData}
+use Rattle.sn_msg.specs.declared.Body.TheVariants.{GetS, GetM, FwdGetS, FwdGetM, Inv, DataS, DataM, DataE, UpgOk, InvAck, Unblock, PutReq}
+use Rattle.sn_msg.specs.declared.Body.TheVariants.{PutGo, PutData, PutDone, Ready, Advance}
 use Rattle.sn_model.specs.declared.cache.LineState.{LineState}
 use Rattle.sn_model.specs.declared.cache.LineState.TheVariants.{Absent, Shared, Owned, Modified, Exclusive}
 use Rattle.sn_model.specs.declared.cache.Need.{Need}
@@ -201,3 +202,57 @@ MayClosePut at block = puts_on at.cache.put block ≡ true
 abbrev pub data_exclusive : Logged → ℕ → ℕ → ℕ → List ℕ → CacheReply
 data_exclusive at home block tag content =
     reply_or_wait (taken_over at block tag Exclusive content) home (fixed_at at.cache.miss tag 0)
+
+-- the row of each message
+
+-- a message for which the cache has no row does nothing
+abbrev pub no_row : Logged → CacheReply
+no_row at = record { after = at; sends = []; lost = None }
+
+-- the row of a body, for a block of this home, in the node's interval, with the message's tag
+abbrev pub row_by : Logged → ℕ → ℕ → ℕ → ℕ → Body → CacheReply
+row_by at home block now tag (FwdGetS r) = forward_read at block r
+row_by at home block now tag (FwdGetM r due) = forward_write at block now r due
+row_by at home block now tag (Inv r) = invalidate at block r
+row_by at home block now tag (DataS content) = data_shared at home block tag content
+row_by at home block now tag (DataM content due) = data_modified at home block tag content due
+row_by at home block now tag (UpgOk due) = upgrade_granted at home tag due
+row_by at home block now tag InvAck = acknowledge at home
+row_by at home block now tag PutGo = put_go at home block now
+row_by at home block now tag PutDone = put_done at
+row_by at home block now tag (DataE content) = data_exclusive at home block tag content
+row_by at home block now tag GetS = no_row at
+row_by at home block now tag GetM = no_row at
+row_by at home block now tag (Unblock fixed) = no_row at
+row_by at home block now tag PutReq = no_row at
+row_by at home block now tag (PutData content) = no_row at
+row_by at home block now tag (Ready k) = no_row at
+row_by at home block now tag (Advance k) = no_row at
+
+-- the condition of the row
+abbrev pub MeetsRow : Logged → ℕ → Body → Type 0
+MeetsRow at block (FwdGetS r) = MayForward at block
+MeetsRow at block (FwdGetM r due) = MayForward at block
+MeetsRow at block (Inv r) = Unit {0}
+MeetsRow at block (DataS content) = MayTakeCopy at block
+MeetsRow at block (DataM content due) = MayTakeOwnership at block
+MeetsRow at block (UpgOk due) = MayUpgrade at block
+MeetsRow at block InvAck = MayCount at.cache.miss block
+MeetsRow at block PutGo = MayGiveBack at block
+MeetsRow at block PutDone = MayClosePut at block
+MeetsRow at block (DataE content) = MayTakeCopy at block
+MeetsRow at block GetS = ⊥
+MeetsRow at block GetM = ⊥
+MeetsRow at block (Unblock fixed) = ⊥
+MeetsRow at block PutReq = ⊥
+MeetsRow at block (PutData content) = ⊥
+MeetsRow at block (Ready k) = ⊥
+MeetsRow at block (Advance k) = ⊥
+
+-- the interval in which a row notes, where it does
+abbrev pub noted_in : ℕ → ℕ → Body → Option ℕ
+noted_in now tag (FwdGetM r due) = Some now
+noted_in now tag PutGo = Some now
+noted_in now tag (DataM content due) = Some tag
+noted_in now tag (DataE content) = Some tag
+noted_in now tag _ = None

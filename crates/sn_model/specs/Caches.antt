@@ -1,5 +1,5 @@
 -- A cache as a value: its lines, its open miss and its open put. A map from blocks is a list in order of block numbers.
-use Rattle.std.specs.Prelude.{ℕ, zero, suc, ◌+◌, ◌%◌, Bool, true, false, ◌&&◌, ◌||◌, nat_eq, if◌then◌else◌, List, [], slice_index_or}
+use Rattle.std.specs.Prelude.{ℕ, zero, suc, ◌+◌, ◌≤◌, ◌%◌, Bool, true, false, ◌&&◌, ◌||◌, nat_eq, if◌then◌else◌, List, [], slice_index_or}
 use Rattle.std.specs.Prelude.{slice_set, replicate, Option, Some, None}
 use Rattle.sn_base.specs.declared.limits.TheConstants.{BLOCKS}
 use Rattle.sn_model.specs.declared.cache.LineState.{LineState}
@@ -44,6 +44,14 @@ empty_lines = replicate block_count no_line
 
 abbrev pub empty_cache : Cache
 empty_cache = record { lines = empty_lines; miss = None; put = None }
+
+-- a cache of these lines, with nothing open
+abbrev pub cache_of_lines : List Line → Cache
+cache_of_lines lines = record { lines = lines; miss = None; put = None }
+
+-- the line of a block among lines, and in a cache
+abbrev pub line_at : List Line → ℕ → Line
+line_at lines block = slice_index_or lines block no_line
 
 abbrev pub line_of : Cache → ℕ → Line
 line_of cache block = slice_index_or cache.lines block no_line
@@ -98,3 +106,7 @@ frames_below (suc block) cache sets set =
 -- how many frames of the set of a block are taken
 unfoldable pub frames_taken : Cache → ℕ → ℕ → ℕ
 frames_taken cache sets block = frames_below block_count cache sets (block % sets)
+
+-- in no set more frames are taken than it has ways
+abbrev pub FitsSets : Cache → ℕ → ℕ → Type 0
+FitsSets cache sets ways = (block : ℕ) → frames_taken cache sets block ≤ ways

@@ -1,14 +1,17 @@
 -- The rows of a home, in the order of its table: what each message does to the entry of its block. `r` is the sender,
 -- `now` the home's interval and `tag` the message's. Where a transaction is open, a request waits (HomeBusy).
-use Rattle.std.specs.Prelude.{ℕ, ◌+◌, Bool, true, false, List, [], ◌∷◌, count_by, slice_set, Option, Some, None}
+use Rattle.std.specs.Prelude.{◌≡◌, ℕ, ◌+◌, Bool, true, false, nat_eq, if◌then◌else◌, List, [], ◌∷◌, count_by, slice_set, Option, Some, None}
 use Rattle.sn_base.specs.declared.log.LogEntry.{LogEntry}
 use Rattle.sn_base.specs.declared.log.Old.TheVariants.{WasHome, WasCache}
-use Rattle.sn_msg.specs.declared.Body.TheVariants.{FwdGetS, FwdGetM, Inv, DataS, DataM, DataE, UpgOk, PutGo, PutDone}
+use Rattle.sn_msg.specs.declared.Message.{Message}
+use Rattle.sn_msg.specs.declared.Body.{Body}
+use Rattle.sn_msg.specs.declared.Body.TheVariants.{GetS, GetM, FwdGetS, FwdGetM, Inv, DataS, DataM, DataE, UpgOk, Unblock, PutReq}
+use Rattle.sn_msg.specs.declared.Body.TheVariants.{PutGo, PutData, PutDone}
 use Rattle.sn_model.specs.declared.home.Kind.{Kind}
 use Rattle.sn_model.specs.declared.home.Kind.TheVariants.{Read, Take, Move, Upgrade, Put}
 use Rattle.sn_model.specs.declared.cache.Out.{Out}
 use Rattle.log_buffer.specs.Log.{log_with_note}
-use Rattle.sn_model.specs.Homes.{HomeEntry, Holder, Itself, OfCache, Transaction, no_sharers}
+use Rattle.sn_model.specs.Homes.{HomeEntry, Holder, Itself, OfCache, Transaction, is_owner, no_sharers}
 use Rattle.sn_model.specs.CacheRows.{send}
 
 -- an entry with its node's log
@@ -130,3 +133,65 @@ grant_exclusive at block now r content = record {
   after = taken_from_home at block now r content;
   sends = send r (DataE content) ∷ [];
 }
+
+-- which messages have a row
+
+abbrev pub is_put : Kind → Bool
+is_put Put = true
+is_put _ = false
+
+-- an open transaction of another kind than Put that the sender asked for
+abbrev pub MayUnblock : Option Transaction → ℕ → Type 0
+MayUnblock None r = ⊥
+MayUnblock (Some transaction) r = (is_put transaction.kind ≡ false) × (transaction.requester ≡ r)
+
+-- an open Put of the sender
+abbrev pub MayEndPut : Option Transaction → ℕ → Type 0
+MayEndPut None r = ⊥
+MayEndPut (Some transaction) r = (is_put transaction.kind ≡ true) × (transaction.requester ≡ r)
+
+-- whether a message from r has a row: a GetS that needn't wait doesn't come from the named owner
+abbrev pub HasRow : HomeEntry → ℕ → Body → Type 0
+HasRow entry r GetS = entry.transaction ≡ None → is_owner entry.holder r ≡ false
+HasRow entry r GetM = Unit {0}
+HasRow entry r PutReq = Unit {0}
+HasRow entry r (Unblock fixed) = MayUnblock entry.transaction r
+HasRow entry r (PutData content) = MayEndPut entry.transaction r
+HasRow entry r _ = ⊥
+
+-- whether a message is a request, which waits while a transaction is open
+abbrev pub is_request : Body → Bool
+is_request GetS = true
+is_request GetM = true
+is_request PutReq = true
+is_request _ = false
+
+-- the interval under which a row notes what stood, where it notes
+
+abbrev pub noted_by_read : Holder → ℕ → ℕ → Option ℕ
+noted_by_read (Itself content) others now = if nat_eq others 0 then Some now else None
+noted_by_read (OfCache owner) others now = None
+
+abbrev pub noted_by_write : Holder → ℕ → Option ℕ
+noted_by_write (Itself content) now = Some now
+noted_by_write (OfCache owner) now = None
+
+abbrev pub noted_by_end : Kind → Holder → ℕ → Option ℕ
+noted_by_end Move (OfCache owner) fixed = Some fixed
+noted_by_end _ _ fixed = None
+
+abbrev pub noted_by_unblock : Option Transaction → Holder → ℕ → Option ℕ
+noted_by_unblock None holder fixed = None
+noted_by_unblock (Some transaction) holder fixed = noted_by_end transaction.kind holder fixed
+
+-- a request that waits notes nothing
+abbrev pub unless_open : Option Transaction → Option ℕ → Option ℕ
+unless_open None interval = interval
+unless_open (Some transaction) interval = None
+
+abbrev pub noting : HomeEntry → ℕ → Message → Body → Option ℕ
+noting entry now m GetS = unless_open entry.transaction (noted_by_read entry.holder (count_others entry.sharers m.from) now)
+noting entry now m GetM = unless_open entry.transaction (noted_by_write entry.holder now)
+noting entry now m (Unblock fixed) = noted_by_unblock entry.transaction entry.holder fixed
+noting entry now m (PutData content) = Some m.tag
+noting entry now m _ = None

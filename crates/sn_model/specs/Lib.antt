@@ -2,6 +2,7 @@ pub mod Caches
 pub mod Homes
 pub mod CacheRows
 pub mod HomeRows
+pub mod Receivers
 pub mod Fabric
 pub mod Net
 pub mod Access

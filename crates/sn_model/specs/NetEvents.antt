@@ -2,6 +2,7 @@
 use Rattle.std.specs.Prelude.{ℕ, ◌+◌, true, not, nat_eq, nat_lt, max, if◌then◌else◌, List, length, filter, slice_set, Option, Some, None}
 use Rattle.std.specs.Option.{option_map}
 use Rattle.sn_base.specs.declared.config.Config.{Config}
+use Rattle.sn_base.specs.declared.event.Answer.{Answer}
 use Rattle.sn_base.specs.declared.event.Answer.TheVariants.{LogFull, NetFull, Hopped, LostInDead, Arrived, NotArrived, NoMessage, Delivered}
 use Rattle.sn_base.specs.declared.event.Answer.TheVariants.{Held, HomeBusy, Lost, Killed, AlreadyDead}
 use Rattle.sn_base.specs.declared.log.LogEntry.{LogEntry}
@@ -142,6 +143,10 @@ delivers config s m (AtCache reply) = fits_in config s reply.after.log reply.sen
 delivers config s m (AtHome reply) = fits_in config s reply.after.log reply.sends
     (sending (with_net (home_after s m.to m.block reply) (without_flight s.net m.id)) m.to m.block reply.sends Delivered)
 delivers config s m (Noted fabric told) = record (step_with_answer (with_net fabric (without_flight s.net m.id)) Delivered) { told = Some told }
+
+-- the answer to a delivery, once it has come and isn't held
+abbrev pub answer_to : Config → Fabric → Message → Answer
+answer_to config s m = (delivers config s m (outcome_of s m m.body)).answer
 
 abbrev pub delivers_flight : Config → Fabric → Option Flight → FabricStep
 delivers_flight config s None = step_refused s NoMessage

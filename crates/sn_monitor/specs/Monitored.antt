@@ -7,20 +7,24 @@ use Rattle.sn_driver.specs.declared.turn.Turn.TheVariants.{Did}
 use Rattle.sn_driver.specs.Driver.{DriverData}
 use Rattle.sn_driver.specs.Turns.{Took, IsLater}
 use Rattle.snap_board.specs.Snap.{SnapData}
+use Rattle.snap_board.specs.Watching.{BoardId}
 use Rattle.sn_monitor.specs.Cut.{snap_now}
 use Rattle.sn_monitor.specs.declared.monitored.Published.{Published}
 use Rattle.sn_monitor.specs.declared.monitored.Published.TheVariants.{Nothing, New, Memory}
 
--- the machine, its driver, the address of the word that is watched, and all snapshots that were published, in order
+-- the machine, its driver, the address of the word that is watched, the board on which snapshots are published, and all that were,
+-- in order
 pub record MonitoredData : Type 0 where
   pub machine : MachineData
   pub driver : DriverData
   pub watch : ℕ
+  pub board : BoardId
   pub published : List SnapData
 
 -- a start: the one snapshot that is published is the start's
-abbrev pub first_monitored : MachineData → DriverData → ℕ → MonitoredData
-first_monitored m driver watch = record { machine = m; driver = driver; watch = watch; published = snap_now m watch ∷ [] }
+abbrev pub first_monitored : MachineData → DriverData → ℕ → BoardId → MonitoredData
+first_monitored m driver watch board =
+    record { machine = m; driver = driver; watch = watch; board = board; published = snap_now m watch ∷ [] }
 
 -- whether a turn did a validation
 abbrev pub is_validation : Turn → Bool
@@ -35,11 +39,12 @@ Publishes turn New before after =
     (is_validation turn ≡ true) × (after.published ≡ before.published ++ snap_now after.machine after.watch ∷ [])
 Publishes turn Memory before after = (is_validation turn ≡ true) × (after.published ≡ before.published)
 
--- a turn: one of the driver, and what it published; the sizes and the watched word stay
+-- a turn: one of the driver, and what it published; the sizes, the watched word and the board stay
 pub record IsTurn (before : MonitoredData) (worker pick : ℕ) (turn : Turn) (said : Published) (after : MonitoredData) : Type 0 where
   pub took : Took before.driver before.machine worker pick turn after.driver after.machine
   pub publishes : Publishes turn said before after
   pub watch : after.watch ≡ before.watch
+  pub board : after.board ≡ before.board
   pub later : IsLater before.driver before.machine after.driver after.machine
 
 -- a snapshot was published, or memory was lacking and it wasn't

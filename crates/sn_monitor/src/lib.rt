@@ -3,7 +3,7 @@
 //!
 //! The layer above makes turns, and knows of them what the driver's turns are, and that the published list has just the
 //! snapshots of the cuts that were validated; and it knows of the watcher what a board promises: its front never goes back, and
-//! no look is behind a receipt that it learned. Nothing here picks events or starts threads.
+//! begins with the list of each receipt that it learned. Nothing here picks events or starts threads.
 #![tactic(auto)]
 
 mod cut;

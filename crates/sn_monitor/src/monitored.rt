@@ -1,5 +1,5 @@
 //! A machine and its driver, whose turns publish.
-ghost use Rattle.std.specs.Prelude.{◌≡◌, ◌+◌, ◌^◌, ◌<◌, ◌≤◌, false, length, [], ◌∷◌, ◌++◌, IfOk, IfErr};
+ghost use Rattle.std.specs.Prelude.{◌≡◌, ◌+◌, ◌^◌, ◌<◌, ◌≤◌, length, [], ◌∷◌, ◌++◌, IfOk, IfErr};
 ghost use Rattle.sn_model.specs.Machine.{start_of};
 ghost use Rattle.due_events.specs.Numbers.{first_numbers};
 ghost use Rattle.sn_driver.specs.Turns.{due_at};
@@ -50,9 +50,15 @@ impl Model for Monitored {
 
     ghost Value = { MonitoredData };
 
-    ghost view = { λ m. record { machine = m.machine; driver = m.driver; watch = m.watch; published = m.board } };
+    ghost view = { λ m. record {
+      machine = m.machine;
+      driver = m.driver;
+      watch = m.watch;
+      board = m.board.board;
+      published = m.board.published;
+    } };
 
-    ghost invariant = { λ m. Goes m.machine m.driver m.board × IsWatchable m.watch };
+    ghost invariant = { λ m. Goes m.machine m.driver m.board.published × IsWatchable m.watch };
 }
 
 // Whether a turn did a validation.
@@ -69,8 +75,9 @@ fn is_validation(turn: &Turn) -> bool
 fn publish(rt: &impl Wait, board: &mut Board, machine: &Machine, watch: u32) -> Published
     requires watched { IsWatchable watch }
     requires few { length machine.now.state.committed < 2 ^ 32 }
-    requires below { (s : SnapData) → EndsIn board.old s → s.point < machine.now.state.fabric.point }
-    ensures { Shows result board.old (snap_now machine.now watch) board.new }
+    requires below { (s : SnapData) → EndsIn board.old.published s → s.point < machine.now.state.fabric.point }
+    ensures shows { Shows result board.old.published (snap_now machine.now watch) board.new.published }
+    ensures same { board.new.board ≡ board.old.board }
 {
     match board.show(rt, snap_of(machine, watch)) {
         Ok(()) => Published::New,
@@ -91,8 +98,8 @@ impl Monitored {
         requires nodes { driver.nodes ≡ machine.config.nodes }
         requires first { driver.numbers ≡ first_numbers }
         requires watched { IsWatchable watch }
-        ensures ok { IfOk result (λ made. (made.0 ≡ first_monitored machine driver watch)
-            × (made.1 ≡ record { front = snap_now machine watch ∷ []; told = machine.state.fabric.point; late = false })) }
+        ensures ok { IfOk result (λ made. (made.0 ≡ first_monitored machine driver watch made.0.board)
+            × (made.1 ≡ record { board = made.0.board; front = snap_now machine watch ∷ [] })) }
         ensures err { IfErr result (λ refused. (refused.machine ≡ machine) × (refused.driver ≡ driver)) }
     {
         // For the prover alone: how many events a machine's life has.
@@ -135,7 +142,7 @@ impl Monitored {
 
     /// What names the list that is published so far.
     pub fn receipt(&mut self) -> Receipt
-        ensures names { EndsIn self.old.published result }
+        ensures names { result ≡ record { board = self.old.board; list = self.old.published } }
         ensures same { self.new ≡ self.old }
     {
         self.board.receipt()

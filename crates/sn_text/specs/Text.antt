@@ -1,6 +1,6 @@
 -- The texts that are written. Numbers are decimal; words and addresses have eight lower-case hexadecimal digits.
 use Rattle.std.specs.Prelude.{ℕ, ◌+◌, ◌/◌, ◌%◌, Bool, nat_eq, nat_lt, if◌then◌else◌, List, [], ◌∷◌, ◌++◌, drop, codes, decimal, Option}
-use Rattle.std.specs.Prelude.{Some, None}
+use Rattle.std.specs.Prelude.{Some, None, ⊤}
 use Rattle.text_lines.specs.Hex.{hex_byte, hex_word}
 use Rattle.sn_base.specs.declared.event.Event.{Event}
 use Rattle.sn_base.specs.declared.event.Event.TheVariants.{Step, Evict, Edge, Hop, Deliver, Lose, Kill, Report, Validate, Recover, Input}
@@ -81,6 +81,16 @@ answer_text (Recovered undo) = named_number (codes "recovered") undo.to ++ named
 answer_text (CutOff a b) = named_number (codes "cutoff") a ++ codes " " ++ decimal b
 answer_text Given = codes "given"
 answer_text NoInput = codes "noinput"
+
+-- numbers stand behind the answer's name
+abbrev pub IsNumbered : Answer → Type 0
+IsNumbered (Edged interval) = ⊤
+IsNumbered (Reported interval) = ⊤
+IsNumbered (Validated interval) = ⊤
+IsNumbered (NotReady node) = ⊤
+IsNumbered (Recovered undo) = ⊤
+IsNumbered (CutOff a b) = ⊤
+IsNumbered _ = ⊥
 
 -- `PLACE EVENT: ANSWER`
 unfoldable pub event_line : ℕ → Event → Answer → List ℕ

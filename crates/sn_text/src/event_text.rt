@@ -1,13 +1,49 @@
 //! Events and answers as text.
-ghost use Rattle.std.specs.Prelude.{◌≡◌, ℕ, ◌+◌, ◌≤◌, ◌++◌, Ok, length, true};
+ghost use Rattle.std.specs.Prelude.{◌≡◌, ℕ, ◌+◌, ◌≤◌, ◌++◌, Ok, IfSome, MatchOption, length, true};
 ghost use Rattle.sn_base.specs.Events.{event_fits};
 ghost use Rattle.sn_text.specs.Script.{event_of};
 ghost use Rattle.sn_text.specs.Written.{HasNumbers};
-ghost use Rattle.sn_text.specs.Text.{named_number, switch_text, event_text, answer_text, event_line, script_line};
+ghost use Rattle.sn_text.specs.Text.{named_number, switch_text, event_text, answer_text, IsNumbered, event_line, script_line};
 ghost use Rattle.sn_text.specs.declared.line.TheConstants.{LINE_ROOM};
 
 use crate::line::Line;
 use sn_base::{Answer, Event, NodeId, SwitchId};
+
+/// The text of an answer that has no numbers.
+pub fn plain_answer(answer: &Answer) -> Option<&'static str>
+    ensures text { MatchOption result (IsNumbered answer.now) (λ name. name.now ≡ answer_text answer.now) }
+    ensures short { IfSome result (λ name. length name.now ≤ 16) }
+{
+    match answer {
+        Answer::Retired => Some("retired"),
+        Answer::Missed => Some("missed"),
+        Answer::Waits => Some("waits"),
+        Answer::NeedsEvict => Some("needsevict"),
+        Answer::LogFull => Some("logfull"),
+        Answer::NetFull => Some("netfull"),
+        Answer::Ended => Some("ended"),
+        Answer::Evicted => Some("evicted"),
+        Answer::PutBegun => Some("putbegun"),
+        Answer::NotCached => Some("notcached"),
+        Answer::PutOpen => Some("putopen"),
+        Answer::MissOpen => Some("missopen"),
+        Answer::CheckpointsFull => Some("checkpointsfull"),
+        Answer::Hopped => Some("hopped"),
+        Answer::LostInDead => Some("lostindead"),
+        Answer::Arrived => Some("arrived"),
+        Answer::NotArrived => Some("notarrived"),
+        Answer::NoMessage => Some("nomessage"),
+        Answer::Delivered => Some("delivered"),
+        Answer::Held => Some("held"),
+        Answer::HomeBusy => Some("homebusy"),
+        Answer::Lost => Some("lost"),
+        Answer::Killed => Some("killed"),
+        Answer::AlreadyDead => Some("alreadydead"),
+        Answer::Given => Some("given"),
+        Answer::NoInput => Some("noinput"),
+        _ => None,
+    }
+}
 
 impl Line {
     fn named_node(&mut self, name: &str, node: NodeId)
@@ -61,37 +97,15 @@ impl Line {
         }
     }
 
-    fn the_answer(&mut self, answer: &Answer)
-        requires { length self.old + 100 ≤ LINE_ROOM }
+    // Of an answer that has numbers behind its name.
+    fn numbered_answer(&mut self, answer: &Answer)
+        requires numbered { IsNumbered answer.now }
+        requires room { length self.old + 100 ≤ LINE_ROOM }
         ensures text { self.new ≡ self.old ++ answer_text answer.now }
         ensures short { length self.new ≤ length self.old + 100 }
     {
         match answer {
-            Answer::Retired => self.text("retired"),
-            Answer::Missed => self.text("missed"),
-            Answer::Waits => self.text("waits"),
-            Answer::NeedsEvict => self.text("needsevict"),
-            Answer::LogFull => self.text("logfull"),
-            Answer::NetFull => self.text("netfull"),
-            Answer::Ended => self.text("ended"),
-            Answer::Evicted => self.text("evicted"),
-            Answer::PutBegun => self.text("putbegun"),
-            Answer::NotCached => self.text("notcached"),
-            Answer::PutOpen => self.text("putopen"),
-            Answer::MissOpen => self.text("missopen"),
             Answer::Edged(interval) => self.named("edged", u64::from(*interval)),
-            Answer::CheckpointsFull => self.text("checkpointsfull"),
-            Answer::Hopped => self.text("hopped"),
-            Answer::LostInDead => self.text("lostindead"),
-            Answer::Arrived => self.text("arrived"),
-            Answer::NotArrived => self.text("notarrived"),
-            Answer::NoMessage => self.text("nomessage"),
-            Answer::Delivered => self.text("delivered"),
-            Answer::Held => self.text("held"),
-            Answer::HomeBusy => self.text("homebusy"),
-            Answer::Lost => self.text("lost"),
-            Answer::Killed => self.text("killed"),
-            Answer::AlreadyDead => self.text("alreadydead"),
             Answer::Reported(interval) => self.named("reported", u64::from(*interval)),
             Answer::Validated(interval) => self.named("validated", u64::from(*interval)),
             Answer::NotReady(node) => self.named_node("notready", *node),
@@ -104,8 +118,18 @@ impl Line {
                 self.named_node("cutoff", *a);
                 self.named_node("", *b);
             }
-            Answer::Given => self.text("given"),
-            Answer::NoInput => self.text("noinput"),
+            _ => {}
+        }
+    }
+
+    fn the_answer(&mut self, answer: &Answer)
+        requires { length self.old + 100 ≤ LINE_ROOM }
+        ensures text { self.new ≡ self.old ++ answer_text answer.now }
+        ensures short { length self.new ≤ length self.old + 100 }
+    {
+        match plain_answer(answer) {
+            Some(name) => self.text(name),
+            None => self.numbered_answer(answer),
         }
     }
 

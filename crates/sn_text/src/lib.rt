@@ -19,11 +19,12 @@ mod trace;
 mod trace_text;
 
 pub use cause::{Fault, ScriptCause, ScriptFault};
+pub use event_text::plain_answer;
 pub use items::{Form, cause_at, is_skipped, read_items};
 pub use laws::{scripts_are_read_back, traces_are_read_back};
 pub use line::{LINE_ROOM, Line};
 pub use numbers::number_in;
 pub use operands::{byte_in, message_in, node_in, parted, switch_in};
 pub use script::{event_in, read_script, rest_after};
-pub use state_text::trap_name;
+pub use state_text::{body_name, trap_name};
 pub use trace::{read_trace, record_in, word_in};

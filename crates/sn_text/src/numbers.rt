@@ -7,10 +7,9 @@ fn digit_in(byte: u8) -> Option<u8>
     ensures none { IsNone result ↔ (is_digit byte ≡ false) }
     ensures some { IfSome result (λ digit. (is_digit byte ≡ true) × (digit + 48 ≡ byte) × (digit < 10)) }
 {
-    if (b'0'..=b'9').contains(&byte) {
-        Some(byte - b'0')
-    } else {
-        None
+    match byte {
+        b'0'..=b'9' => Some(byte - b'0'),
+        _ => None,
     }
 }
 

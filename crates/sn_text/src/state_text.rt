@@ -11,7 +11,7 @@ use sn_model::Sent;
 use sn_msg::{Body, Message};
 
 /// The name of a message's body.
-fn name_of(body: &Body) -> &'static str
+pub fn body_name(body: &Body) -> &'static str
     ensures name { result.now ≡ body_name body.now }
     ensures short { length result.now ≤ 8 }
 {
@@ -107,7 +107,7 @@ impl Line {
     {
         self.named("  msg", message.id);
         self.text(" ");
-        self.text(name_of(&message.body));
+        self.text(body_name(&message.body));
     }
 
     fn message_route(&mut self, message: &Message)

@@ -1,7 +1,7 @@
 //! Reads traces: one record a line.
 ghost use Rattle.std.specs.Prelude.{◌≡◌, ◌<◌, ◌≤◌, ◌^◌, All, IfOk, IfErr, MatchOption, Some, None, length, Ok};
 ghost use Rattle.sn_text.specs.Items.{IsRefusedAs};
-ghost use Rattle.sn_text.specs.Trace.{word_of, flag_of, record_by, record_of, trace_of};
+ghost use Rattle.sn_text.specs.Trace.{word_by, word_of, flag_of, record_by, record_of, trace_of};
 ghost use Rattle.sn_base.specs.declared.limits.TheConstants.{EVENTS};
 
 use crate::cause::{Fault, ScriptFault};
@@ -12,6 +12,16 @@ use rv_core::Record;
 use std::alloc::Global;
 use std::marker::Model;
 
+/// The word of four bytes, from its highest.
+fn word_by(a: Option<u8>, b: Option<u8>, c: Option<u8>, d: Option<u8>) -> Option<u32>
+    ensures { result ≡ word_by a b c d }
+{
+    match (a, b, c, d) {
+        (Some(a), Some(b), Some(c), Some(d)) => Some(u32::from_be_bytes([a, b, c, d])),
+        _ => None,
+    }
+}
+
 /// The word of eight lower-case hexadecimal digits.
 #[tactic(auto, unfolding(crate::specs::Trace::word_of))]
 pub fn word_in(text: &[u8]) -> Option<u32>
@@ -20,13 +30,12 @@ pub fn word_in(text: &[u8]) -> Option<u32>
     if text.len() != 8 {
         return None;
     }
-    let bytes = [
-        byte_in(&text[..2])?,
-        byte_in(&text[2..4])?,
-        byte_in(&text[4..6])?,
-        byte_in(&text[6..])?,
-    ];
-    Some(u32::from_be_bytes(bytes))
+    word_by(
+        byte_in(&text[..2]),
+        byte_in(&text[2..4]),
+        byte_in(&text[4..6]),
+        byte_in(&text[6..]),
+    )
 }
 
 fn flag_in(text: &[u8]) -> Option<bool>

@@ -1,5 +1,5 @@
 -- Laws of lists of snapshots.
-use Rattle.std.proofs.Common.{◌≡◌, ◌<◌, ◌≤◌, List, [], ◌∷◌, ◌++◌, refl, sym, subst, ap, ◌∙◌, append_assoc, le_refl, arith}
+use Rattle.std.proofs.Common.{◌≡◌, ◌<◌, ◌≤◌, List, [], ◌∷◌, ◌++◌, refl, sym, subst, ap, ◌∙◌, append_assoc, append-nil, le_refl, ◌⊎◌, ⊎_elim, arith}
 use Rattle.sn_consistency.specs.Committed.{Begins}
 use Rattle.snap_board.specs.Snap.{SnapData}
 use Rattle.snap_board.specs.Fronts.{Rises, EndsIn}
@@ -66,3 +66,38 @@ ends_one snaps s e = record { before = []; is = e }
 
 pub ends_added : (front snaps : List SnapData) (s : SnapData) → snaps ≡ front ++ s ∷ [] → EndsIn snaps s
 ends_added front snaps s e = record { before = front; is = e }
+
+-- nothing stands behind a snapshot whose point isn't below the last
+strictly : (before more : List SnapData) (s x t : SnapData) → Rises ((before ++ s ∷ []) ++ x ∷ more) → EndsIn ((before ++ s ∷ []) ++ x ∷ more) t →
+    s.point < t.point
+strictly before more s x t h e =
+    let same : (before ++ s ∷ []) ++ x ∷ more ≡ before ++ s ∷ x ∷ more = append_assoc before (s ∷ []) (x ∷ more) in
+    let r = rest_rises before (s ∷ x ∷ more) (subst Rises same h) in
+    let a = r.0 in
+    let b = first_below x more r.1 in
+    let c : last_or more x ≡ t = sym (last_append before (x ∷ more) s s) ∙ sym (ap (λ l. last_or l s) same) ∙ last_of ((before ++ s ∷ []) ++ x ∷ more) t s e in
+    let d = ap (λ (u : SnapData). u.point) c in omega (arith, a, b, d)
+
+pub one_point : (front snaps : List SnapData) (s t : SnapData) → Begins front snaps → Rises snaps → EndsIn front s → EndsIn snaps t →
+    t.point ≤ s.point → EndsIn snaps s
+one_point front snaps s t begins h e f below = go begins.more begins.is
+  where
+    go : (more : List SnapData) → snaps ≡ front ++ more → EndsIn snaps s
+    go [] is = record { before = e.before; is = is ∙ append-nil front ∙ e.is }
+    go (x ∷ more) is =
+        let all : snaps ≡ (e.before ++ s ∷ []) ++ x ∷ more = is ∙ ap (λ l. l ++ x ∷ more) e.is in
+        let a = strictly e.before more s x t (subst Rises all h) (subst (λ (l : List SnapData). EndsIn l t) all f) in
+        absurd (omega (arith, a, below))
+
+-- the longer of two beginnings ends in the later of their last snapshots
+module _ (front list after : List SnapData) (s t : SnapData) (f : Begins front after) (l : Begins list after) (rises : Rises after) (longer : (after ≡ front) ⊎ (after ≡ list)) (ends : EndsIn front s) (listed : EndsIn list t) where
+  pub ends_later : s.point < t.point → EndsIn after t
+  ends_later below = ⊎_elim
+      (λ (e : after ≡ front).
+      let a = later_last list after t s l rises listed (subst (λ (x : List SnapData). EndsIn x s) (sym e) ends) in absurd (omega (arith, a, below)))
+      (λ (e : after ≡ list). subst (λ (x : List SnapData). EndsIn x t) (sym e) listed) longer
+
+  pub ends_same : t.point ≤ s.point → EndsIn after s
+  ends_same below = ⊎_elim
+      (λ (e : after ≡ front). subst (λ (x : List SnapData). EndsIn x s) (sym e) ends)
+      (λ (e : after ≡ list). one_point front after s t f rises ends (subst (λ (x : List SnapData). EndsIn x t) (sym e) listed) below) longer

@@ -1,3 +1,4 @@
 pub mod Fronts
-pub mod Leads
-pub mod Rules
+pub mod Kept
+pub mod Learning
+pub mod Seen

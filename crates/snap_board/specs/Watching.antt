@@ -1,14 +1,23 @@
--- What contracts see of a watcher.
-use Rattle.std.specs.Prelude.{ℕ, Bool, if◌then◌else◌, List, [], ◌∷◌}
+-- What contracts see of a board, of its receipts and of its watcher.
+use Rattle.std.specs.Prelude.{List}
+use Rattle.atomic_table.specs.Seated.{TableId}
 use Rattle.snap_board.specs.Snap.{SnapData}
 
--- its front: the snapshots of which it knows that they were published, up to the one that it saw last; the greatest point of
--- which a receipt told it; and whether it is late: it looked only after its board had ended, and has a receipt's snapshot alone
-pub record WatcherData : Type 0 where
-  pub front : List SnapData
-  pub told : ℕ
-  pub late : Bool
+-- which board it is: what no other board shares with it
+abbrev pub BoardId : Type 0
+BoardId = TableId
 
--- a front by what was seen, or by a receipt's snapshot alone
-abbrev pub front_by : Bool → List SnapData → SnapData → List SnapData
-front_by late seen last = if late then last ∷ [] else seen
+-- all that was published, in order
+pub record BoardData : Type 0 where
+  pub board : BoardId
+  pub published : List SnapData
+
+-- the list that it names
+pub record ReceiptData : Type 0 where
+  pub board : BoardId
+  pub list : List SnapData
+
+-- a watcher's front: the snapshots of which it knows that they were published, up to the one that it saw last
+pub record WatcherData : Type 0 where
+  pub board : BoardId
+  pub front : List SnapData

@@ -1,171 +1,147 @@
-//! The reading side: watchers, and the receipts that they learn.
-ghost use Rattle.std.specs.Prelude.{◌≡◌, ℕ, ◌<◌, ◌≤◌, false, max, length, MatchOption};
-ghost use Rattle.left_right.specs.Sides.{view as known};
+//! The reading side.
+ghost use Rattle.std.specs.Prelude.{◌≡◌, ◌<◌, ◌≤◌, true, false, IfSome};
+ghost use Rattle.left_right.specs.Sides.{view as sight};
 ghost use Rattle.sn_consistency.specs.Committed.{Begins};
 ghost use Rattle.snap_board.specs.Fronts.{Rises, EndsIn};
 ghost use Rattle.snap_board.specs.Snap.{SnapData};
 
+use crate::holder::Holder;
+use crate::receipt::Receipt;
 use crate::rule::{Looks, Sees};
+use crate::shown::Shown;
 use crate::snap::Snap;
 use core::mem::replace_with;
 use std::marker::Model;
 
-/// The name of a list that was published. Contracts see the list.
-#[derive(Drop)]
-pub struct Receipt {
-    last: Snap,
-}
-
-impl Model for Receipt {
-    ghost use Rattle.snap_board.specs.Snap.{SnapData};
-
-    ghost Value = { SnapData };
-
-    ghost view = { λ r. r.last };
-}
-
-impl Receipt {
-    pub(crate) fn of(last: &Snap) -> Receipt
-        ensures { result ≡ last.now }
-    {
-        Receipt {
-            last: last.copied(),
-        }
-    }
-
-    /// The last snapshot of that list.
-    pub fn last(&self) -> &Snap
-        ensures { result.now ≡ self.now }
-    {
-        &self.last
-    }
-}
-
 /// One who looks at a board.
 #[derive(Drop)]
 pub struct Watcher {
-    pub(crate) reader: Sees,
-    pub(crate) last: Snap,
-    pub(crate) told: Snap,
-    pub(crate) late: bool,
+    reader: Sees,
+    holder: Holder,
+    last: Snap,
 }
 
 impl Model for Watcher {
-    ghost use Rattle.std.specs.Prelude.{◌≡◌, ◌<◌, false, length};
-    ghost use Rattle.left_right.specs.Sides.{view as known};
+    ghost use Rattle.std.specs.Prelude.{◌≡◌, true, false};
+    ghost use Rattle.left_right.specs.Sides.{view as sight};
     ghost use Rattle.snap_board.specs.Fronts.{Rises, EndsIn};
-    ghost use Rattle.snap_board.specs.Watching.{WatcherData, front_by};
+    ghost use Rattle.snap_board.specs.Watching.{WatcherData};
 
     ghost Value = { WatcherData };
 
-    ghost view = { λ w. record { front = front_by w.late (known w.reader.place).seen w.last; told = w.told.point; late = w.late } };
+    ghost view = { λ w. record { board = w.holder.note.table_id; front = w.holder.note.me.0.seen } };
 
-    ghost invariant = { λ w. ((known w.reader.place).leads ≡ false) × (0 < length (known w.reader.place).seen)
-        × Rises (known w.reader.place).seen × EndsIn (front_by w.late (known w.reader.place).seen w.last) w.last };
+    ghost invariant = { λ w. (w.holder.note.me.0.leads ≡ false) × Rises w.holder.note.me.0.seen × EndsIn w.holder.note.me.0.seen w.last
+        × ((sight w.reader.place).known ≡ true) × ((sight w.reader.place).perch.table_id ≡ w.holder.note.table_id) };
 }
 
-/// Reads what is shown. None where the board has ended.
-fn read(reader: Sees) -> (Sees, Option<Snap>)
-    requires some { 0 < length (known reader.place).seen }
-    ensures leads { (known result.0.place).leads ≡ (known reader.place).leads }
-    ensures seen { MatchOption result.1 ((known result.0.place).seen ≡ (known reader.place).seen) (λ snap.
-        Begins (known reader.place).seen (known result.0.place).seen × Rises (known result.0.place).seen
-        × EndsIn (known result.0.place).seen snap) }
+/// The receipt of what is shown. None where the note of it isn't in its place.
+fn receipt_of(shown: &Shown, holder: &Holder) -> Option<Receipt>
+    requires { shown.now.perch.table_id ≡ holder.now.note.table_id }
+    ensures { IfSome result (λ receipt. receipt ≡ record { board = holder.now.note.table_id; list = shown.now.perch.view.seen }) }
+{
+    let mut note = shown.perch.take(0).1?;
+    let told = holder.copy_of(&mut note);
+    let _back = shown.perch.give(note, 0, 2);
+    Some(Receipt::new(shown.snap.copied(), told))
+}
+
+/// Reads what is shown. None where the board has ended, too.
+fn read(reader: Sees, holder: &Holder) -> (Sees, Option<Receipt>)
+    requires known { (sight reader.place).known ≡ true }
+    requires board { (sight reader.place).perch.table_id ≡ holder.now.note.table_id }
+    ensures known { (sight result.0.place).known ≡ true }
+    ensures board { (sight result.0.place).perch.table_id ≡ holder.now.note.table_id }
+    ensures receipt { IfSome result.1 (λ receipt. receipt.board ≡ holder.now.note.table_id) }
 {
     match reader.enter_as::<Looks>() {
         Ok(reading) => {
-            let snap = reading.get().snap.copied();
-            (reading.leave(), Some(snap))
+            let receipt = receipt_of(reading.get(), holder);
+            (reading.leave(), receipt)
         }
         Err(reader) => (reader, None),
     }
 }
 
+/// Goes by another snapshot, where that is later.
+fn go_by(last: &mut Snap, other: Snap)
+    ensures later { last.old.point < other.point → last.new ≡ other }
+    ensures stays { other.point ≤ last.old.point → last.new ≡ last.old }
+{
+    if last.point() < other.point() {
+        *last = other;
+    }
+}
+
 impl Watcher {
-    /// A watcher that has seen what its reader has, which ends in this snapshot.
-    pub(crate) fn new(reader: Sees, last: Snap) -> Watcher
-        requires follows { (known reader.place).leads ≡ false }
-        requires rises { Rises (known reader.place).seen }
-        requires ends { EndsIn (known reader.place).seen last }
-        ensures { result ≡ record { front = (known reader.place).seen; told = last.point; late = false } }
+    /// A watcher that knows what its note does, which ends in this snapshot.
+    pub(crate) fn new(reader: Sees, holder: Holder, last: Snap) -> Watcher
+        requires follows { holder.note.me.0.leads ≡ false }
+        requires rises { Rises holder.note.me.0.seen }
+        requires ends { EndsIn holder.note.me.0.seen last }
+        requires known { (sight reader.place).known ≡ true }
+        requires board { (sight reader.place).perch.table_id ≡ holder.note.table_id }
+        ensures { result ≡ record { board = holder.note.table_id; front = holder.note.me.0.seen } }
     {
-        let told = last.copied();
         Watcher {
             reader,
+            holder,
             last,
-            told,
-            late: false,
         }
     }
 
-    /// What is shown now, without waiting. Once the board has ended, it is what was seen last, or what a receipt told, where that
-    /// is later.
+    /// What is shown now, or what a receipt told, where that is later; without waiting. Once the board has ended, it is what was
+    /// known last.
     pub fn look(&mut self) -> Snap
         ensures last { EndsIn self.new.front result }
         ensures rises { Rises self.new.front }
-        ensures goes_on { self.new.late ≡ false → Begins self.old.front self.new.front }
+        ensures goes_on { Begins self.old.front self.new.front }
         ensures stays { (s : SnapData) → EndsIn self.old.front s → s.point ≤ result.point }
-        ensures told { self.old.told ≤ result.point }
-        ensures same { self.new.told ≡ self.old.told }
+        ensures same { self.new.board ≡ self.old.board }
     {
-        self.read_on();
-        self.or_told();
+        self.go_on();
         self.last.copied()
     }
 
-    /// Takes in what is shown, unless the board has ended.
-    fn read_on(&mut self)
+    /// Learns the receipt of what is shown.
+    fn go_on(&mut self)
         ensures goes_on { Begins self.old.front self.new.front }
         ensures rises { Rises self.new.front }
-        ensures ends { (s : SnapData) × EndsIn self.new.front s }
-        ensures same { (self.new.told ≡ self.old.told) × (self.new.late ≡ self.old.late) }
+        ensures same { self.new.board ≡ self.old.board }
     {
-        if self.late {
-            return;
+        if let Some(receipt) = self.read_on() {
+            self.learn(receipt);
         }
-        let seen = replace_with(
+    }
+
+    /// Takes the receipt of what is shown.
+    fn read_on(&mut self) -> Option<Receipt>
+        ensures same { self.new ≡ self.old }
+        ensures rises { Rises self.new.front }
+        ensures board { IfSome result (λ receipt. receipt.board ≡ self.old.board) }
+    {
+        replace_with(
             &mut self.reader,
-            (),
-            |reader: Sees, _nothing: ()| -> (Sees, Option<Snap>)
-                requires { 0 < length (known reader.place).seen }
-                ensures { ((known result.0.place).leads ≡ (known reader.place).leads)
-                    × MatchOption result.1 ((known result.0.place).seen ≡ (known reader.place).seen) (λ snap.
-                    Begins (known reader.place).seen (known result.0.place).seen × Rises (known result.0.place).seen
-                    × EndsIn (known result.0.place).seen snap) }
-            { read(reader) },
-        );
-        if let Some(snap) = seen {
-            self.last = snap;
-        }
+            &self.holder,
+            |reader: Sees, holder: &Holder| -> (Sees, Option<Receipt>)
+                requires { ((sight reader.place).known ≡ true) × ((sight reader.place).perch.table_id ≡ holder.now.note.table_id) }
+                ensures { ((sight result.0.place).known ≡ true)
+                    × ((sight result.0.place).perch.table_id ≡ holder.now.note.table_id)
+                    × IfSome result.1 (λ receipt. receipt.board ≡ holder.now.note.table_id) }
+            { read(reader, holder) },
+        )
     }
 
-    /// Goes by what a receipt told, where that is later, as it is only once the board has ended.
-    fn or_told(&mut self)
-        ensures kept { self.new.late ≡ false → self.new.front ≡ self.old.front }
-        ensures rises { Rises self.old.front → Rises self.new.front }
-        ensures stays { (s t : SnapData) → EndsIn self.old.front s → EndsIn self.new.front t → s.point ≤ t.point }
-        ensures told { (t : SnapData) → EndsIn self.new.front t → self.old.told ≤ t.point }
-        ensures same { self.new.told ≡ self.old.told }
-    {
-        if self.last.point() < self.told.point() {
-            self.last = self.told.copied();
-            self.late = true;
-        }
-    }
-
-    /// From now on no look is behind the last snapshot of a receipt, which is one of this watcher's board.
+    /// From now on the front begins with the list of this receipt, which is one of this watcher's board.
     pub fn learn(&mut self, receipt: Receipt)
-        ensures { self.new ≡ record self.old { told = max self.old.told receipt.point } }
+        requires { receipt.board ≡ self.old.board }
+        ensures learned { Begins receipt.list self.new.front }
+        ensures goes_on { Begins self.old.front self.new.front }
+        ensures rises { Rises self.new.front }
+        ensures same { self.new.board ≡ self.old.board }
     {
-        if self.told.point() < receipt.last.point() {
-            self.told = receipt.last;
-        }
-    }
-
-    /// Whether it looked only after its board had ended, and has a receipt's snapshot alone.
-    pub fn is_late(&self) -> bool
-        ensures { result ≡ self.now.late }
-    {
-        self.late
+        let Receipt { last, note } = receipt;
+        go_by(&mut self.last, last);
+        self.holder.hear(note);
     }
 }

@@ -2,17 +2,25 @@
 ghost use Rattle.std.specs.Prelude.{◌≡◌, ◌++◌, codes, decimal, OnOk};
 ghost use Rattle.std.specs.List.{flat_map};
 ghost use Rattle.text_lines.specs.Hex.{hex_byte, hex_word};
-ghost use Rattle.state_json.specs.Json.{comma_after, flag, large, word, byte, bytes};
+ghost use Rattle.sn_text.specs.Text.{named_number};
+ghost use Rattle.state_json.specs.Json.{quotation_of, member, comma_after, flag, large, word, byte, bytes};
 
 use itoa::Buffer;
 use sn_base::Memory;
 use text_lines::{hex_byte, hex_word};
 
+/// Bytes as they are.
+fn extend(text: &mut Vec<u8>, piece: &[u8]) -> Result<(), Memory>
+    ensures { OnOk result (text.new.items ≡ text.old.items ++ piece.now) }
+{
+    Ok(text.extend_from_slice(piece)?)
+}
+
 /// A text as it is.
 pub fn add(text: &mut Vec<u8>, piece: &str) -> Result<(), Memory>
     ensures { OnOk result (text.new.items ≡ text.old.items ++ piece.now) }
 {
-    Ok(text.extend_from_slice(piece.as_bytes())?)
+    extend(text, piece.as_bytes())
 }
 
 /// A member's name with what stands round it; its value is to follow.
@@ -36,6 +44,15 @@ pub fn add_member(text: &mut Vec<u8>, name: &str) -> Result<(), Memory>
     ensures { OnOk result (text.new.items ≡ text.old.items ++ (codes ",\"" ++ name.now ++ codes "\":")) }
 {
     add_named(text, ",\"", name)
+}
+
+/// A text in quotation marks.
+pub(crate) fn add_quotation(text: &mut Vec<u8>, piece: &str) -> Result<(), Memory>
+    ensures { OnOk result (text.new.items ≡ text.old.items ++ quotation_of piece.now) }
+{
+    add(text, "\"")?;
+    add(text, piece)?;
+    add(text, "\"")
 }
 
 /// A comma, where others stand before.
@@ -65,6 +82,23 @@ pub fn add_number(text: &mut Vec<u8>, number: u64) -> Result<(), Memory>
     add(text, buffer.format(number))
 }
 
+/// A name, a blank and a number.
+pub(crate) fn add_name_and_number(text: &mut Vec<u8>, name: &str, number: u64) -> Result<(), Memory>
+    ensures { OnOk result (text.new.items ≡ text.old.items ++ named_number name.now number) }
+{
+    add(text, name)?;
+    add(text, " ")?;
+    add_number(text, number)
+}
+
+/// A further member that is a number.
+pub(crate) fn add_named_number(text: &mut Vec<u8>, name: &str, number: u64) -> Result<(), Memory>
+    ensures { OnOk result (text.new.items ≡ text.old.items ++ member name.now (decimal number)) }
+{
+    add_member(text, name)?;
+    add_number(text, number)
+}
+
 /// A number that may exceed 2^53, as a string.
 pub fn add_large(text: &mut Vec<u8>, number: u64) -> Result<(), Memory>
     ensures { OnOk result (text.new.items ≡ text.old.items ++ large number) }
@@ -75,12 +109,11 @@ pub fn add_large(text: &mut Vec<u8>, number: u64) -> Result<(), Memory>
 }
 
 /// A word or an address as a string of eight hexadecimal digits.
-#[tactic(auto, unfolding(text_lines::specs::Hex::hex_word))]
 pub fn add_word(text: &mut Vec<u8>, number: u32) -> Result<(), Memory>
     ensures { OnOk result (text.new.items ≡ text.old.items ++ word number) }
 {
     add(text, "\"")?;
-    text.extend_from_slice(&hex_word(number))?;
+    extend(text, &hex_word(number))?;
     add(text, "\"")
 }
 
@@ -88,7 +121,7 @@ pub fn add_word(text: &mut Vec<u8>, number: u32) -> Result<(), Memory>
 pub fn add_digits(text: &mut Vec<u8>, number: u8) -> Result<(), Memory>
     ensures { OnOk result (text.new.items ≡ text.old.items ++ hex_byte number) }
 {
-    Ok(text.extend_from_slice(&hex_byte(number))?)
+    extend(text, &hex_byte(number))
 }
 
 /// A byte as a string of two hexadecimal digits.

@@ -1,53 +1,18 @@
 //! Messages as JSON.
 ghost use Rattle.std.specs.Prelude.{◌≡◌, ◌++◌, false, map, codes, decimal, OnOk};
-ghost use Rattle.sn_text.specs.Text.{body_name, switch_text};
-ghost use Rattle.state_json.specs.Json.{quotation_of, member, with_commas, array, content_text};
+ghost use Rattle.sn_text.specs.Text.{switch_text};
+ghost use Rattle.state_json.specs.Json.{quotation_of, member, with_commas, array};
 ghost use Rattle.state_json.specs.Messages.{about_block, body_text, message_text, flight_text, sent_text};
 
-use crate::json::{add, add_comma, add_flag, add_large, add_member, add_number, add_opening};
-use crate::values::add_content;
-use sn_base::{Block, BlockNo, Memory, NodeId, SwitchId};
+use crate::json::{
+    add, add_comma, add_flag, add_large, add_member, add_named_number, add_number, add_opening,
+    add_quotation,
+};
+use crate::values::add_named_content;
+use sn_base::{BlockNo, Memory, NodeId, SwitchId};
 use sn_model::Sent;
 use sn_msg::{Body, Message};
-
-/// The name of a message's kind.
-fn name_of(body: &Body) -> &'static str
-    ensures { result.now ≡ body_name body.now }
-{
-    match body {
-        Body::GetS => "gets",
-        Body::GetM => "getm",
-        Body::FwdGetS(_) => "fwdgets",
-        Body::FwdGetM(..) => "fwdgetm",
-        Body::Inv(_) => "inv",
-        Body::DataS(_) => "datas",
-        Body::DataM(..) => "datam",
-        Body::DataE(_) => "datae",
-        Body::UpgOk(_) => "upgok",
-        Body::InvAck => "invack",
-        Body::Unblock(_) => "unblock",
-        Body::PutReq => "putreq",
-        Body::PutGo => "putgo",
-        Body::PutData(_) => "putdata",
-        Body::PutDone => "putdone",
-        Body::Ready(_) => "ready",
-        Body::Advance(_) => "advance",
-    }
-}
-
-fn add_named_number(text: &mut Vec<u8>, name: &str, number: u64) -> Result<(), Memory>
-    ensures { OnOk result (text.new.items ≡ text.old.items ++ member name.now (decimal number)) }
-{
-    add_member(text, name)?;
-    add_number(text, number)
-}
-
-fn add_named_content(text: &mut Vec<u8>, content: &Block) -> Result<(), Memory>
-    ensures { OnOk result (text.new.items ≡ text.old.items ++ member (codes "content") (content_text content.now)) }
-{
-    add_member(text, "content")?;
-    add_content(text, content)
-}
+use sn_text::body_name;
 
 fn add_requester(text: &mut Vec<u8>, requester: NodeId) -> Result<(), Memory>
     ensures { OnOk result (text.new.items ≡ text.old.items ++ member (codes "requester") (decimal requester)) }
@@ -112,9 +77,7 @@ pub fn add_message(text: &mut Vec<u8>, message: &Message) -> Result<(), Memory>
     add_opening(text, "id")?;
     add_large(text, message.id)?;
     add_member(text, "kind")?;
-    add(text, "\"")?;
-    add(text, name_of(&message.body))?;
-    add(text, "\"")?;
+    add_quotation(text, body_name(&message.body))?;
     add_named_number(text, "from", u64::from(message.from.number()))?;
     add_named_number(text, "to", u64::from(message.to.number()))?;
     add_named_number(text, "tag", u64::from(message.tag))?;

@@ -1,15 +1,15 @@
 //! What a node and a home have, as JSON.
-ghost use Rattle.std.specs.Prelude.{◌≡◌, ◌<◌, ◌≤◌, ◌++◌, drop, length, map, decimal, nat_eq, not, slice_index, IfOk, OnOk, false};
+ghost use Rattle.std.specs.Prelude.{◌≡◌, ◌<◌, ◌≤◌, ◌++◌, codes, drop, length, map, decimal, nat_eq, not, slice_index, IfOk, OnOk, false};
 ghost use Rattle.sn_base.specs.Nodes.{has_node};
 ghost use Rattle.text_lines.specs.Hex.{hex_byte};
 ghost use Rattle.sn_text.specs.Text.{end_text};
-ghost use Rattle.state_json.specs.Json.{quotation_of, IsAddedIf, with_commas, array, or_null, byte, digits_below, content_text};
+ghost use Rattle.state_json.specs.Json.{quotation_of, member, IsAddedIf, with_commas, array, or_null, byte, digits_below, content_text};
 ghost use Rattle.state_json.specs.Values.{register_text, register_texts, core_text, state_letter, line_text, need_name, miss_text, put_text};
 ghost use Rattle.state_json.specs.Values.{old_text, entry_text, record_text, held_text, kind_name, transaction_text, marked_texts};
 
 use crate::json::{
-    add, add_byte, add_comma, add_digits, add_flag, add_member, add_null, add_number, add_opening,
-    add_word,
+    add, add_byte, add_comma, add_digits, add_flag, add_member, add_name_and_number,
+    add_named_number, add_null, add_number, add_opening, add_quotation, add_word,
 };
 use rv_core::{CoreState, End, Record};
 use sn_base::{Block, BlockNo, Entries, Interval, LogEntry, Memory, NodeId, NodeSet, Old, Width};
@@ -51,10 +51,7 @@ fn add_end_words(text: &mut Vec<u8>, end: &End) -> Result<(), Memory>
 {
     match end {
         End::Running => add(text, "running"),
-        End::Exited(code) => {
-            add(text, "exited ")?;
-            add_number(text, u64::from(*code))
-        }
+        End::Exited(code) => add_name_and_number(text, "exited", u64::from(*code)),
         End::Trapped(cause) => {
             add(text, "trapped ")?;
             add(text, trap_name(*cause))
@@ -70,6 +67,15 @@ fn add_end(text: &mut Vec<u8>, end: &End) -> Result<(), Memory>
     add(text, "\"")
 }
 
+fn add_register_text(text: &mut Vec<u8>, number: u8, value: u32) -> Result<(), Memory>
+    ensures { OnOk result (text.new.items ≡ text.old.items ++ register_text number value) }
+{
+    add(text, "\"x")?;
+    add_number(text, u64::from(number))?;
+    add(text, "\":")?;
+    add_word(text, value)
+}
+
 /// A register, unless it is 0; and whether texts stand there then.
 fn add_register(text: &mut Vec<u8>, others: bool, number: u8, value: u32) -> Result<bool, Memory>
     ensures { IfOk result (λ some. IsAddedIf (not (nat_eq value 0)) (register_text number value) text.old.items text.new.items others some) }
@@ -78,10 +84,7 @@ fn add_register(text: &mut Vec<u8>, others: bool, number: u8, value: u32) -> Res
         return Ok(others);
     }
     add_comma(text, others)?;
-    add(text, "\"x")?;
-    add_number(text, u64::from(number))?;
-    add(text, "\":")?;
-    add_word(text, value)?;
+    add_register_text(text, number, value)?;
     Ok(true)
 }
 
@@ -150,6 +153,14 @@ pub fn add_content(text: &mut Vec<u8>, content: &Block) -> Result<(), Memory>
     add(text, "\"")
 }
 
+/// A further member that is a block's content.
+pub(crate) fn add_named_content(text: &mut Vec<u8>, content: &Block) -> Result<(), Memory>
+    ensures { OnOk result (text.new.items ≡ text.old.items ++ member (codes "content") (content_text content.now)) }
+{
+    add_member(text, "content")?;
+    add_content(text, content)
+}
+
 fn letter_of(state: LineState) -> &'static str
     ensures { result.now ≡ state_letter state }
 {
@@ -175,11 +186,8 @@ pub fn add_line(
     add_opening(text, "block")?;
     add_number(text, u64::from(block.number()))?;
     add_member(text, "state")?;
-    add(text, "\"")?;
-    add(text, letter_of(state))?;
-    add(text, "\"")?;
-    add_member(text, "content")?;
-    add_content(text, content)?;
+    add_quotation(text, letter_of(state))?;
+    add_named_content(text, content)?;
     add(text, "}")
 }
 
@@ -209,17 +217,12 @@ pub fn add_miss(
     add_opening(text, "block")?;
     add_number(text, u64::from(block.number()))?;
     add_member(text, "need")?;
-    add(text, "\"")?;
-    add(text, need_name(need))?;
-    add(text, "\"")?;
-    add_member(text, "issued")?;
-    add_number(text, u64::from(issued))?;
+    add_quotation(text, need_name(need))?;
+    add_named_number(text, "issued", u64::from(issued))?;
     add_member(text, "fixed")?;
     add_interval(text, fixed)?;
-    add_member(text, "due")?;
-    add_number(text, u64::from(due))?;
-    add_member(text, "acks")?;
-    add_number(text, u64::from(acks))?;
+    add_named_number(text, "due", u64::from(due))?;
+    add_named_number(text, "acks", u64::from(acks))?;
     add(text, "}")
 }
 
@@ -230,8 +233,7 @@ pub fn add_put(text: &mut Vec<u8>, block: BlockNo, issued: Interval) -> Result<(
 {
     add_opening(text, "block")?;
     add_number(text, u64::from(block.number()))?;
-    add_member(text, "issued")?;
-    add_number(text, u64::from(issued))?;
+    add_named_number(text, "issued", u64::from(issued))?;
     add(text, "}")
 }
 
@@ -242,18 +244,15 @@ fn add_old(text: &mut Vec<u8>, old: &Old) -> Result<(), Memory>
         Old::NotOwned => add(text, "\"notowned\""),
         Old::Owned(content) => {
             add(text, "\"owned\"")?;
-            add_member(text, "content")?;
-            add_content(text, content)
+            add_named_content(text, content)
         }
         Old::WasHome(content) => {
             add(text, "\"washome\"")?;
-            add_member(text, "content")?;
-            add_content(text, content)
+            add_named_content(text, content)
         }
         Old::WasCache(node) => {
             add(text, "\"wascache\"")?;
-            add_member(text, "owner")?;
-            add_number(text, u64::from(node.number()))
+            add_named_number(text, "owner", u64::from(node.number()))
         }
     }
 }
@@ -265,8 +264,7 @@ pub fn add_entry(text: &mut Vec<u8>, entry: &LogEntry) -> Result<(), Memory>
 {
     add_opening(text, "interval")?;
     add_number(text, u64::from(entry.interval))?;
-    add_member(text, "block")?;
-    add_number(text, u64::from(entry.block.number()))?;
+    add_named_number(text, "block", u64::from(entry.block.number()))?;
     add_member(text, "old")?;
     add_old(text, &entry.old)?;
     add(text, "}")
@@ -345,13 +343,9 @@ pub fn add_transaction(
         transaction_text (record { kind = kind; requester = requester; begun = begun })) }
 {
     add_opening(text, "kind")?;
-    add(text, "\"")?;
-    add(text, kind_name(kind))?;
-    add(text, "\"")?;
-    add_member(text, "requester")?;
-    add_number(text, u64::from(requester.number()))?;
-    add_member(text, "begun")?;
-    add_number(text, u64::from(begun))?;
+    add_quotation(text, kind_name(kind))?;
+    add_named_number(text, "requester", u64::from(requester.number()))?;
+    add_named_number(text, "begun", u64::from(begun))?;
     add(text, "}")
 }
 

@@ -8,7 +8,7 @@ ghost use Rattle.usage_reasons.specs.Table.{quantity_by, key_of, quantity_name, 
 
 use option_values::{BUDGET, INTERVAL, LOG, LOSE_EVERY, NODES, NumberRule, SEED, SETS, WAIT, WAYS};
 
-#[derive(Clone, Copy, PartialEq, Eq, Debug)]
+#[derive(Clone, Copy)]
 pub(crate) enum Command {
     Replay,
     Drive,
@@ -25,7 +25,7 @@ pub(crate) enum Command {
 }
 
 /// What a number stands for.
-#[derive(Clone, Copy, PartialEq, Eq, Debug)]
+#[derive(Clone, Copy)]
 pub(crate) enum Quantity {
     Nodes,
     Sets,
@@ -39,7 +39,7 @@ pub(crate) enum Quantity {
 }
 
 /// What the value of an option is.
-#[derive(Clone, Copy, PartialEq, Eq, Debug)]
+#[derive(Clone, Copy)]
 pub(crate) enum Key {
     Number(Quantity),
     /// The address of a word.

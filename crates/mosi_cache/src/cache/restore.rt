@@ -5,8 +5,7 @@
 //! which is the one state that needs no other node's knowledge.
 ghost use Rattle.std.specs.Prelude.{◌≡◌, false};
 ghost use Rattle.rollback.specs.Unwound.{contents_with_old};
-ghost use Rattle.sn_model.specs.Caches.{line_of, with_line};
-ghost use Rattle.mosi_cache.specs.Controller.{FitsSets};
+ghost use Rattle.sn_model.specs.Caches.{line_of, with_line, FitsSets};
 ghost use Rattle.mosi_cache.specs.Restored.{begun_restore, held_of, HeldFits, StaysAsItIs};
 ghost use Rattle.mosi_cache.specs.PartsFit.{fits-part, fits-way, stays-same, stays-along};
 

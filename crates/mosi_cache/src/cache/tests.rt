@@ -5,10 +5,10 @@
 ghost use Rattle.std.specs.Prelude.{◌≡◌, ◌+◌, ◌≤◌, true, false, List};
 ghost use Rattle.sn_base.specs.declared.log.LogEntry.{LogEntry};
 ghost use Rattle.log_buffer.specs.Log.{logged_to};
-ghost use Rattle.sn_model.specs.CacheRows.{AwaitsAnswer, NoneIn, MayCount};
+ghost use Rattle.sn_model.specs.CacheRows.{AwaitsAnswer, NoneIn, MayCount, MeetsRow, noted_in};
 ghost use Rattle.sn_model.specs.Caches.{is_owned, puts_on};
+ghost use Rattle.sn_model.specs.Receivers.{IsNoteInOrder};
 ghost use Rattle.mosi_cache.specs.Controller.{with_entries};
-ghost use Rattle.mosi_cache.specs.Rows.{MeetsRow, NotesInLogOrder, noted_in};
 
 mod access;
 mod restore;
@@ -273,7 +273,7 @@ fn is_last(log: &LogBuffer, block: BlockNo, interval: Interval) -> bool
 }
 
 fn notes_last(message: &Message, now: Interval, log: &LogBuffer) -> bool
-    ensures { result ≡ true → NotesInLogOrder log.now.entries message.now.block (noted_in now message.now.tag message.now.body) }
+    ensures { result ≡ true → IsNoteInOrder log.now.entries false message.now.block (noted_in now message.now.tag message.now.body) }
 {
     match noting(message, now) {
         Some(interval) => is_last(log, message.block, interval),

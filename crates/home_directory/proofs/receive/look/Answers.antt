@@ -1,7 +1,8 @@
 use Rattle.std.proofs.Common.{◌≡◌, false, refl, ap, sym, ◌∙◌}
-use Rattle.home_directory.specs.Receipt.{entry_as_it_is, noting, look_of}
+use Rattle.home_directory.specs.Receipt.{entry_as_it_is, look_of}
 use Rattle.home_directory.specs.Serving.{lacks_room, waits}
 use Rattle.sn_model.specs.declared.look.Look.TheVariants.{Sends}
+use Rattle.sn_model.specs.HomeRows.{noting}
 use Rattle.home_directory.proofs.Verdicts.{judged_is, sends_are}
 use Rattle.home_directory.proofs.receive.look.Goals as goal
 

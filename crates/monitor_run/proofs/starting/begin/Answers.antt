@@ -29,7 +29,7 @@ returns-in-Ok-clause-stands g c =
     subst (λ (x : MonitoredData). Stands x after × IsReady x after) (sym (c.note_last.ensures.same ∙ made)) (
       stands-first m c.new.result c.args.watch t.seed t.budget c.requires.fresh.0 c.requires.fresh.1
           (ap (λ (d : DriverData). d.nodes) c.new.ensures ∙ ap (λ k. k.nodes) c.config.ensures.same)
-          (ap (λ (d : DriverData). d.numbers) c.new.ensures) c.requires.room c.requires.few c.requires.sizes t.generators t.journal t.answers
+          (ap (λ (d : DriverData). d.numbers) c.new.ensures) c.requires.room c.requires.few c.requires.sizes c.in-Ok.monitored.board t.generators t.journal t.answers
           c.note_last.new.published new_.journal new_.answers noted new_.journal_room new_.answers_room
           (omega (arith, new_.marks_room, c.note_last.ensures.room)),
       record {

@@ -1,5 +1,5 @@
 use Rattle.std.proofs.Common.{◌≡◌, ◌<◌, length, ◌∙◌, subst, arith}
-use Rattle.fabric_bounds.specs.Met.{answer_to}
+use Rattle.sn_model.specs.NetEvents.{answer_to}
 use Rattle.sn_fabric.specs.Fabric.{FabricData}
 use Rattle.sn_fabric.proofs.Given.{inside, tag-reached}
 use Rattle.sn_fabric.proofs.ToHome.{home-mine, home-here, home-row, home-last, home-foreseen}

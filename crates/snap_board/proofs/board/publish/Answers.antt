@@ -1,8 +1,12 @@
-use Rattle.std.proofs.Common.{[], ◌∷◌, ◌++◌, ap, ◌∙◌}
-use Rattle.snap_board.proofs.Rules.{publishes_one}
+use Rattle.std.proofs.Common.{sym, subst, ap, ◌∙◌}
+use Rattle.atomic_table.specs.Perched.{Roost}
+use Rattle.sn_consistency.specs.Committed.{Begins}
+use Rattle.snap_board.specs.declared.roll.Knowledge.{Knowledge}
+use Rattle.snap_board.proofs.Seen.{turns}
 use Rattle.snap_board.proofs.board.publish.Goals as goal
 
 pub publish_as-writer-requires : goal.publish_as-writer-requires
 publish_as-writer-requires g c next is =
-    let e = c.in-Ok.ensures.pending ∙ ap (λ l. l ++ c.args.snap ∷ []) c.requires.settled in
-    publishes_one _ _ _ c.args.snap _ e (rw c.in-Ok.ensures.desk c.requires.by) (rw c.in-Ok.ensures.desk c.requires.rises) next is
+    let shown = c.args.writer.desk.shown.value in
+    turns _ _ shown next (ap (λ (p : Roost Knowledge). p.table_id) is ∙ c.requires.board)
+    (subst (λ (p : Roost Knowledge). Begins shown.perch.view.seen p.view.seen) (sym is) c.requires.goes_on)

@@ -1,4 +1,4 @@
-use Rattle.snap_board.proofs.Rules.{admits}
+use Rattle.snap_board.proofs.Seen.{admits}
 use Rattle.snap_board.proofs.board.reader_of.Goals as goal
 
 pub reader-requires : goal.reader-requires

@@ -1,4 +1,4 @@
-use Rattle.snap_board.proofs.Rules.{looks}
+use Rattle.snap_board.proofs.Seen.{looks}
 use Rattle.snap_board.proofs.watcher.read.Goals as goal
 
 pub enter_as-requires : goal.enter_as-requires

@@ -18,10 +18,10 @@ returns c =
     let y0 : List ℕ = name ++ value in
     let name1 : List ℕ = codes ",\"" ++ codes "kind" ++ codes "\":" in
     let value1 : List ℕ = quotation_of (body_name c.args.message.now.body) in
-    let e1 = more-by-two start _ _ _ y0 name1 value1 e0 c.in_ok-add_member.ensures (more c.add_member.new.text.items _ _ (codes "\"" ++ body_name c.args.message.now.body) (codes "\"") (more c.add_member.new.text.items _ _ (codes "\"") (body_name c.args.message.now.body) c.in_ok-add.ensures (c.in_ok-add-2.ensures ∙ ap (λ (t : List ℕ). c.add.new.text.items ++ t) c.name_of.ensures)) c.in_ok-add-3.ensures) in
+    let e1 = more-by-two start _ _ _ y0 name1 value1 e0 c.in_ok-add_member.ensures (c.in_ok-add_quotation.ensures ∙ ap (λ (t : List ℕ). c.add_member.new.text.items ++ quotation_of t) c.body_name.ensures.name) in
     let y1 : List ℕ = y0 ++ (name1 ++ value1) in
     let value2 : List ℕ = member (codes "from") (decimal c.args.message.now.from) in
-    let e2 = more start _ _ y1 value2 e1 (c.in_ok-add_named_number.ensures ∙ ap (λ (t : ℕ). c.add-3.new.text.items ++ member (codes "from") (decimal t)) (c.from.ensures ∙ c.number.ensures.same)) in
+    let e2 = more start _ _ y1 value2 e1 (c.in_ok-add_named_number.ensures ∙ ap (λ (t : ℕ). c.add_quotation.new.text.items ++ member (codes "from") (decimal t)) (c.from.ensures ∙ c.number.ensures.same)) in
     let y2 : List ℕ = y1 ++ value2 in
     let value3 : List ℕ = member (codes "to") (decimal c.args.message.now.to) in
     let e3 = more start _ _ y2 value3 e2 (c.in_ok-add_named_number-2.ensures ∙ ap (λ (t : ℕ). c.add_named_number.new.text.items ++ member (codes "to") (decimal t)) (c.from-2.ensures ∙ c.number-2.ensures.same)) in
@@ -32,4 +32,4 @@ returns c =
     let value5 : List ℕ = body_text c.args.message.now.block c.args.message.now.body in
     let e5 = more start _ _ y4 value5 e4 c.in_ok-add_body.ensures in
     let y5 : List ℕ = y4 ++ value5 in
-    on_ok_weaker c.add-4.result (λ e. more start _ _ y5 (codes "}") e5 e) c.add-4.ensures
+    on_ok_weaker c.add.result (λ e. more start _ _ y5 (codes "}") e5 e) c.add.ensures

@@ -3,8 +3,9 @@ use Rattle.atomicity_point.specs.Txn.{Open}
 use Rattle.std.specs.Prelude.{map}
 use Rattle.mosi_cache.specs.Frames.{LinesData}
 use Rattle.mosi_cache.specs.Restored.{begun_line}
-use Rattle.mosi_cache.specs.Controller.{cache_of, FitsSets}
+use Rattle.mosi_cache.specs.Controller.{cache_of}
 use Rattle.mosi_cache.proofs.Restored.{fits-begun}
+use Rattle.sn_model.specs.Caches.{FitsSets}
 use Rattle.mosi_cache.proofs.cache.Cache.begin_restore.Goals as goal
 
 pub invariant_of-self : goal.invariant_of-self

@@ -1,11 +1,12 @@
 use Rattle.std.proofs.Common.{false, sym, subst}
 use Rattle.sn_base.specs.declared.log.Old.TheVariants.{Owned}
 use Rattle.rollback.specs.Unwound.{contents_with_old}
-use Rattle.mosi_cache.specs.Controller.{CacheData, cache_of, FitsSets}
+use Rattle.mosi_cache.specs.Controller.{CacheData, cache_of}
 use Rattle.mosi_cache.specs.Frames.{LinesData}
 use Rattle.mosi_cache.specs.Restored.{held_of, HeldFits}
 use Rattle.mosi_cache.proofs.Held.{room-held, fits-put}
 use Rattle.mosi_cache.proofs.CompletedOrWaiting.{data_by}
+use Rattle.sn_model.specs.Caches.{FitsSets}
 use Rattle.mosi_cache.proofs.cache.Cache.hold.Goals as goal
 
 -- the controller by its parts

@@ -1,13 +1,13 @@
 use Rattle.std.proofs.Common.{◌≡◌, ◌≤◌, true, sym, subst, arith}
 use Rattle.atomicity_point.specs.Txn.{Open}
 use Rattle.sn_model.specs.declared.cache.Need.TheVariants.{Read}
-use Rattle.mosi_cache.specs.Controller.{cache_of, FitsSets}
+use Rattle.mosi_cache.specs.Controller.{cache_of}
 use Rattle.mosi_cache.proofs.cache.Cache.new.Goals as goal
-use Rattle.mosi_cache.proofs.Fits.{fits-none}
+use Rattle.sn_model.proofs.Taken.{fits-none}
 use Rattle.std.proofs.lemmas.Bool.Decides.{nat_tests}
 use Rattle.sn_base.specs.Config.{config_fits}
 use Rattle.sn_base.specs.declared.config.Config.{Config}
-use Rattle.sn_model.specs.Caches.{empty_lines}
+use Rattle.sn_model.specs.Caches.{empty_lines, FitsSets}
 use Rattle.mosi_cache.specs.Frames.{LinesData}
 
 few_nodes : (g : Config) → config_fits g ≡ true → (1 ≤ g.nodes) × (g.nodes ≤ 16)

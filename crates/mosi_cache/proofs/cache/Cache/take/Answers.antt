@@ -2,7 +2,8 @@ use Rattle.std.proofs.Common.{◌%◌, sym, subst}
 use Rattle.mosi_cache.specs.Controller.{with_entries}
 use Rattle.mosi_cache.proofs.cache.Cache.take.Goals as goal
 use Rattle.sn_msg.specs.declared.Body.{Body}
-use Rattle.mosi_cache.specs.Rows.{row_by, IsRowDone}
+use Rattle.mosi_cache.specs.Rows.{IsRowDone}
+use Rattle.sn_model.specs.CacheRows.{row_by}
 
 pub returns-in-FwdGetS-clause-done : goal.returns-in-FwdGetS-clause-done
 returns-in-FwdGetS-clause-done c =

@@ -1,7 +1,7 @@
 use Rattle.std.proofs.Common.{◌≡◌, Some, true, sym, ap, ◌∙◌, subst}
 use Rattle.cache_array.specs.Slots.{frame_of}
-use Rattle.sn_model.specs.Caches.{no_line, is_present}
-use Rattle.mosi_cache.specs.Frames.{FrameLine, LinesData, line_at, line_kept, kept_at}
+use Rattle.sn_model.specs.Caches.{no_line, is_present, line_at}
+use Rattle.mosi_cache.specs.Frames.{FrameLine, LinesData, line_kept, kept_at}
 use Rattle.mosi_cache.proofs.Changes.{read-found, read-absent, frame-kept, kept-read}
 use Rattle.mosi_cache.proofs.lines.Lines.find.Goals as goal
 

@@ -1,7 +1,7 @@
 use Rattle.std.proofs.Common.{ap, ◌∙◌}
 use Rattle.std.specs.Prelude.{nat_le}
-use Rattle.sn_model.specs.Caches.{frames_taken}
-use Rattle.mosi_cache.specs.Frames.{LinesData, cache_of_lines}
+use Rattle.sn_model.specs.Caches.{frames_taken, cache_of_lines}
+use Rattle.mosi_cache.specs.Frames.{LinesData}
 use Rattle.mosi_cache.proofs.Counts.{full-taken}
 use Rattle.mosi_cache.proofs.lines.Lines.is_full.Goals as goal
 

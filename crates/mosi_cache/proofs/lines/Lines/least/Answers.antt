@@ -1,7 +1,8 @@
 use Rattle.std.proofs.Common.{◌≡◌, ◌+◌, ◌*◌, ◌%◌, ◌<◌, ℕ, Bool, true, false, Option, Some, None, List, sym, ap, ◌∙◌, subst}
 use Rattle.cache_array.specs.Slots.{FrameSlots, first_of}
-use Rattle.mosi_cache.specs.Frames.{FrameLine, LinesData, line_at, leaves, leaving_at, IsLeastLeaving}
+use Rattle.mosi_cache.specs.Frames.{FrameLine, LinesData, leaves, leaving_at, IsLeastLeaving}
 use Rattle.mosi_cache.proofs.Least.{least-none, least-some}
+use Rattle.sn_model.specs.Caches.{line_at}
 use Rattle.mosi_cache.proofs.lines.Lines.least.Goals as goal
 
 -- the frames that were looked at are those of the block's set

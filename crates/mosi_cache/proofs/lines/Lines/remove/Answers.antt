@@ -1,8 +1,8 @@
 use Rattle.std.proofs.Common.{◌≡◌, ℕ, List, [], set, Option, Some, None, true, refl, sym, ap, subst, ◌∙◌}
 use Rattle.std.specs.Prelude.{is_some, IfSome}
 use Rattle.cache_array.specs.Slots.{FrameSlots, frame_of, slots_without_block}
-use Rattle.sn_model.specs.Caches.{Line, no_line}
-use Rattle.mosi_cache.specs.Frames.{LinesData, lines_of, line_at}
+use Rattle.sn_model.specs.Caches.{Line, no_line, line_at}
+use Rattle.mosi_cache.specs.Frames.{LinesData, lines_of}
 use Rattle.mosi_cache.proofs.Changes.{Changed, dropped, nothing-removed, read-absent, is-none}
 use Rattle.mosi_cache.proofs.lines.Lines.remove.Goals as goal
 

@@ -25,8 +25,8 @@ invariant_of-self g c =
     c.turn-turn.ensures.took in
     elim c.if-is_validation.branch [
       | then-is_validation w ↦
-          subst (λ (i : Inside). Goes i.machine i.driver i.board × IsWatchable i.watch) (sym w.self-inside-is)
-          (shows_goes _ _ _ _ _ _ goes refl w.publish-published.ensures, c.self.invariant.1)
+          subst (λ (i : Inside). Goes i.machine i.driver i.board.published × IsWatchable i.watch) (sym w.self-inside-is)
+          (shows_goes _ _ _ _ _ _ goes refl w.publish-published.ensures.shows, c.self.invariant.1)
       | else-is_validation w ↦
-          subst (λ (i : Inside). Goes i.machine i.driver i.board × IsWatchable i.watch) (sym w.self-inside-is) (goes, c.self.invariant.1)
+          subst (λ (i : Inside). Goes i.machine i.driver i.board.published × IsWatchable i.watch) (sym w.self-inside-is) (goes, c.self.invariant.1)
     ]

@@ -1,12 +1,12 @@
 -- How many frames of a set are taken, after a change of the cache.
 use Rattle.std.proofs.Common.{◌≡◌, ℕ, zero, suc, ◌+◌, ◌<◌, ◌≤◌, ◌%◌, Bool, true, false, ◌&&◌, ◌||◌, List, length, set, sym, subst, arith}
-use Rattle.std.proofs.Common.{⊎_elim}
+use Rattle.std.proofs.Common.{⊎_elim, ap, replicate, refl}
 use Rattle.std.specs.Prelude.{nat_eq, if◌then◌else◌}
 use Rattle.std.proofs.lemmas.Bool.{cases_eq, cases_lt}
 use Rattle.std.proofs.lemmas.Bool.Decides.{nat_tests}
-use Rattle.std.proofs.lemmas.List.{get_or-set_same, get_or-set_other, set_past}
-use Rattle.sn_model.specs.Caches.{Line, Cache, no_line, is_present, misses_on, takes_frame, block_count, frames_below, frames_taken}
-use Rattle.mosi_cache.specs.Frames.{line_at}
+use Rattle.std.proofs.lemmas.List.{get_or-set_same, get_or-set_other, set_past, get_or_past, get_or-replicate, length-replicate}
+use Rattle.sn_model.specs.Caches.{Line, Cache, no_line, empty_lines, cache_of_lines, line_at, is_present, misses_on, takes_frame, block_count}
+use Rattle.sn_model.specs.Caches.{frames_below, frames_taken, FitsSets}
 
 -- whether each block that takes a frame of one cache takes one of another
 abbrev pub TakesFewer : Cache → Cache → Type 0
@@ -128,3 +128,35 @@ fewer-set c d x l e m t b h =
     subst (λ (y : ℕ). takes_frame d y ≡ true) i (t g) in
     either (is_present (line_at d.lines b).state) (nat_eq x b) (is_present l.state) (misses_on d.miss b) r u)
     (m b)
+
+-- blocks of one set
+
+pub taken-of-set : (c : Cache) (sets x y : ℕ) → x % sets ≡ y % sets → frames_taken c sets x ≡ frames_taken c sets y
+unfolding frames_taken
+taken-of-set c sets x y e = ap (λ s. frames_below block_count c sets s) e
+
+-- a cache without a line takes no frame
+
+pub empty-at : (b : ℕ) → line_at empty_lines b ≡ no_line
+unfolding empty_lines
+empty-at b =
+    ⊎_elim
+    (λ (l : b < block_count). get_or-replicate block_count b no_line no_line l)
+    (λ (l : block_count ≤ b). get_or_past (replicate block_count no_line) b no_line (omega (arith, length-replicate block_count no_line)))
+    (cases_lt b block_count)
+
+no_step : (a : ℕ) (c p : Bool) → a ≡ 0 → p ≡ false → a + (if c && (p || false) then 1 else 0) ≡ 0
+no_step a c p h i = grind arith
+
+no_frame : (n sets s : ℕ) → frames_below n (cache_of_lines empty_lines) sets s ≡ 0
+no_frame zero sets s = refl
+no_frame (suc n) sets s =
+    no_step (frames_below n (cache_of_lines empty_lines) sets s) (nat_eq (n % sets) s) (is_present (line_at empty_lines n).state)
+    (no_frame n sets s) (ap (λ (l : Line). is_present l.state) (empty-at n))
+
+pub none-taken : (sets b : ℕ) → frames_taken (cache_of_lines empty_lines) sets b ≡ 0
+unfolding frames_taken
+none-taken sets b = no_frame block_count sets (b % sets)
+
+pub fits-none : (sets ways : ℕ) → FitsSets (cache_of_lines empty_lines) sets ways
+fits-none sets ways y = omega (arith, none-taken sets y)

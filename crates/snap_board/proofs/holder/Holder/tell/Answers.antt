@@ -1,0 +1,11 @@
+use Rattle.std.proofs.Common.{sym, ap, ◌∙◌, arith}
+use Rattle.snap_board.proofs.Kept.{splits}
+use Rattle.snap_board.proofs.holder.Holder.tell.Goals as goal
+
+pub split_seat-requires : goal.split_seat-requires
+split_seat-requires c =
+    let own = c.args.self.now.own in
+    let same = own.0 ∙ ap (λ r. r.shared.table_id) (sym c.deref.ensures) in
+    let one = own.1 in
+    let as_many = ap (λ z. z.words) same in
+    (same, omega (arith, one, as_many), splits c.args.self.now.note.id c.args.self.now.note.me.0)
