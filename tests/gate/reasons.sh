@@ -1,6 +1,6 @@
 #!/usr/bin/env bash
 # Shows why each kind of call ends as it does: one line `# why: ` above the line that names the status, and nothing else of what is
-# refused. What can't be read twice, as a pipe, makes the line say less. crates/reasons_tests, usage_reasons_tests and
+# refused. What can't be read twice, as a pipe, makes the line say less. crates/texts_tests, words_tests and
 # call_reasons_tests have a row for each cause; here the files and streams are real.
 set -u
 cd "$(dirname "$0")/../.." || exit 1

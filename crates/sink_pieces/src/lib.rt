@@ -11,9 +11,6 @@ ghost use Rattle.sink_pieces.specs.Pieces.{Report, ends, after, Breaks, console_
 
 use sn_io::{Failed, Sink};
 
-#[cfg(test)]
-mod tests;
-
 /// Puts a text to the console in one piece. Where there are no bytes, the sink isn't called.
 pub fn put_console<C: Sink>(console: &mut C, text: &[u8]) -> Result<(), Failed>
     ensures ok { OnOk result ((r : Option (List ℕ)) →

@@ -1,0 +1,8 @@
+//! The parts that a machine is built of: values, logs, lists by intervals, routes and nets.
+//!
+//! These tests stand above what they call and not in it, since a crate with tests is proved twice, and together, since each crate of
+//! tests loads what it stands on.
+#![tactic(auto)]
+
+#[cfg(test)]
+mod tests;

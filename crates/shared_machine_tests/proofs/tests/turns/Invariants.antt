@@ -1,5 +1,0 @@
-use Rattle.std.proofs.Common.{◌≡◌}
-use Rattle.shared_machine_tests.proofs.tests.turns.Given as goal
-
-abbrev pub invariant-events : goal.invariant-events
-invariant-events g l = l.all.parts ≡ l.initial.all.parts

@@ -1,5 +1,0 @@
-//! Tests of replays that show states.
-#![tactic(auto)]
-
-#[cfg(test)]
-mod tests;

@@ -1,0 +1,4 @@
+//! Traces and lists of accesses that are judged.
+mod committed;
+mod lists;
+mod traces;
