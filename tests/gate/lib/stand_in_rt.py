@@ -4,7 +4,8 @@
 A proof fails where the file FAILS names the crate, and where a text asks for a handle that isn't allowed. What is built has a sum of its
 text and of the libraries below; the program prints the text of the library `low` and its words, and reports the words. `rt try` does the
 same with the present text, and says what rt itself says behind it; the file FAILS.try has it answer otherwise, or not at all. Where the
-toolchain has a folder `kept`, it keeps there what was proved; else it is one that keeps nothing.
+file FAILS.first is there, no proof ends before the call has put an answer. Where the toolchain has a folder `kept`, it keeps there what
+was proved; else it is one that keeps nothing.
 """
 import hashlib
 import os
@@ -24,6 +25,13 @@ REACHES = {"Net": r"\bnet\b"}
 def told(*words):
     with open(os.environ["CALLS"], "a") as calls:
         print(*words, file=calls)
+
+
+def wait_for_an_answer():
+    """Until the file has something that the call's standard output goes to, where it is to have an answer first; at most half a minute."""
+    latest = time.monotonic() + 30
+    while Path(f"{FAILS}.first").exists() and (KIT / "out").stat().st_size == 0 and time.monotonic() < latest:
+        time.sleep(0.02)
 
 
 def text_in(folder):
@@ -53,6 +61,7 @@ class Crate:
 
     def prove(self, words):
         told(self.name, *words)
+        wait_for_an_answer()
         if Path(f"{FAILS}.hang.{self.name}").exists():
             Path(f"{FAILS}.hang.{self.name}").write_text(str(os.getpid()))
             time.sleep(60)
