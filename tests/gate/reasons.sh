@@ -1,7 +1,7 @@
 #!/usr/bin/env bash
 # Shows why each kind of call ends as it does: one line `# why: ` above the line that names the status, and nothing else of what is
 # refused. What can't be read twice, as a pipe, makes the line say less. crates/texts_tests, words_tests and
-# call_reasons_tests have a row for each cause; here the files and streams are real.
+# safetynet_main_tests have a row for each cause; here the files and streams are real.
 set -u
 cd "$(dirname "$0")/../.." || exit 1
 . tests/gate/lib/checks.sh

@@ -1,5 +1,6 @@
 //! Calls, each with what it leaves: texts that come from the rules and not from this program, and each way in which a call ends.
 mod checks;
+mod drives;
 mod failing;
 mod generated;
 mod judged;
@@ -10,6 +11,7 @@ mod runs;
 mod saves;
 mod statuses;
 mod texts;
+mod why;
 
 use call_status::{ProgramCause, Status};
 use calls_in_memory::{Faults, Given, call};
