@@ -6,18 +6,32 @@
     tools/crate_edges.py --paths    says how many paths go down from all crates together; status 1 above MOST_PATHS
 
 The toolchain walks every path of crates.txt, and a crate's check loads what its line names. So a line names those crates alone that the
-crate's own code, clauses, definitions or proofs mention, and not what these stand on in their turn.
+crate's own code, clauses, definitions or proofs mention, and not what these stand on in their turn. Without a flag it also says which theorems stand
+on a controller, by whatever way, since what they say holds of definitions alone.
 """
 import functools
 import re
 import sys
 from pathlib import Path
-from typing import Dict, FrozenSet, List, Tuple
+from typing import Dict, FrozenSet, Iterator, List, Tuple
 
 HERE = Path(__file__).resolve().parent.parent
 LIST = HERE / "crates.txt"
 # An rt that remembers nothing reads the files of a crate about twice for each path to it, some thirty at a time.
 MOST_PATHS = 400_000
+# A change of a controller proves no theorem anew.
+THEOREMS = [
+    "state_parts",
+    "sn_coherence",
+    "sn_consistency",
+    "projection_places",
+    "fabric_coherence",
+    "fabric_bounds",
+    "consistent_cuts",
+    "saved_points",
+    "accepted_saves",
+]
+CONTROLLERS = ["mosi_cache", "home_directory", "sn_fabric", "sn_machine"]
 # A name of the logic, the head of a path in code, and an import.
 MENTIONS = [re.compile(r"Rattle\.(\w+)\."), re.compile(r"(?<![\w:])(\w+)::"), re.compile(r"^(?:pub )?use (\w+)", re.MULTILINE)]
 
@@ -57,6 +71,19 @@ def direct(line: str, every: List[str]) -> str:
     return f"{crate}: {' '.join(words)}".rstrip()
 
 
+def under(crate: str, below: Dict[str, List[str]]) -> Iterator[str]:
+    """What a crate stands on, by whatever way; each as often as a way leads to it."""
+    for it in below.get(crate, []):
+        yield it
+        yield from under(it, below)
+
+
+def on_controllers(lines: List[str]) -> List[str]:
+    """The theorems that stand on a controller, each with it."""
+    below: Dict[str, List[str]] = dict(parted(it) for it in lines)
+    return [f"{theorem} stands on {it}" for theorem in THEOREMS for it in CONTROLLERS if it in under(theorem, below)]
+
+
 def paths(lines: List[str]) -> int:
     """How many paths go down from all crates together, a crate's own beginning among them."""
     below: Dict[str, List[str]] = dict(parted(it) for it in lines)
@@ -82,7 +109,10 @@ def main() -> int:
     for old, new in zip(whole, made):
         if old != new:
             print(f"{old}\n    its sources mention: {parted(new)[1]}", file=sys.stderr)
-    return int(whole != made)
+    wrong = on_controllers([it for it in whole if it and not it.startswith("#")])
+    for it in wrong:
+        print(it, file=sys.stderr)
+    return int(whole != made or bool(wrong))
 
 
 if __name__ == "__main__":
