@@ -1,4 +1,6 @@
 //! Replays, each with all that it puts, and with sinks that fail.
+ghost use Rattle.std.specs.Prelude.{◌≡◌, true};
+
 mod accesses;
 mod counts;
 mod drives;
@@ -6,3 +8,12 @@ mod going_on;
 mod made_to_size;
 mod saves;
 mod states;
+
+use std::process::Abort;
+
+/// Ends a test where it isn't so. A call is cheaper to prove than an assertion in its place, which is one more way out of the test.
+fn is_so(rt: &impl Abort, found: bool)
+    ensures { found ≡ true }
+{
+    assert!(rt; found);
+}

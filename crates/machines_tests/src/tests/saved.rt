@@ -1,4 +1,5 @@
 //! Each run is saved as the text that stands beside it, and a machine goes on from that text.
+use super::is_so;
 use elf_load::load;
 use sn_base::{Answer, Config, Event, Image, NodeId, SwitchId};
 use sn_io::{Failed, MemSink};
@@ -130,11 +131,11 @@ fn a_saved_run_goes_on_where_its_point_is(rt: HostRuntime) -> Result<(), Fail> {
     let mut second = resumed(&rt, alloc, PUTS_A, THREE_RECORDS)?;
     is_saved_as(&rt, alloc, &second, THREE_RECORDS)?;
     let last = play(&rt, alloc, &mut second, "step 0\nstep 0\n")?;
-    assert_eq!(rt; last, Some(Answer::Retired));
+    is_so(&rt, last == Some(Answer::Retired));
     let view = second.recovered();
     assert_eq!(rt; view.committed().len(), 3);
-    assert_eq!(rt; view.released(), b"A".as_slice());
-    assert_eq!(rt; second.applied(), 9);
+    is_so(&rt, view.released() == b"A".as_slice());
+    is_so(&rt, second.applied() == 9);
     Ok(())
 }
 
@@ -146,7 +147,7 @@ fn a_node_that_owned_a_block_owns_it_again(rt: HostRuntime) -> Result<(), Fail> 
     let mut second = resumed(&rt, alloc, ADDS, OWNED_SAVED)?;
     is_saved_as(&rt, alloc, &second, OWNED_SAVED)?;
     let last = play(&rt, alloc, &mut second, "step 1\n")?;
-    assert_eq!(rt; last, Some(Answer::Retired));
+    is_so(&rt, last == Some(Answer::Retired));
     Ok(())
 }
 
@@ -158,7 +159,7 @@ fn bytes_and_dead_switches_stay_and_what_waits_is_left_out(rt: HostRuntime) -> R
     let mut second = resumed(&rt, alloc, ADDS, GIVEN_SAVED)?;
     is_saved_as(&rt, alloc, &second, GIVEN_SAVED)?;
     let last = play(&rt, alloc, &mut second, "kill b1\n")?;
-    assert_eq!(rt; last, Some(Answer::AlreadyDead));
+    is_so(&rt, last == Some(Answer::AlreadyDead));
     Ok(())
 }
 
@@ -169,11 +170,11 @@ fn where_a_sink_fails_a_beginning_was_put(rt: HostRuntime) -> Result<(), Fail> {
     let mut line = Line::new(alloc)?;
     let mut sink = MemSink::with_room(alloc, 10_000)?;
     sink.fail_call(5)?;
-    assert!(rt; may_save(&machine));
-    assert_eq!(rt; save(&mut line, &machine, &mut sink), Err(Failed));
-    assert_eq!(rt;
-        sink.bytes(),
-        b"safetynet-save 1\nconfig 2 16 4 256\nmarks 0 2 7\ndead b1\n".as_slice()
+    is_so(&rt, may_save(&machine));
+    is_so(&rt, save(&mut line, &machine, &mut sink) == Err(Failed));
+    is_so(
+        &rt,
+        sink.bytes() == b"safetynet-save 1\nconfig 2 16 4 256\nmarks 0 2 7\ndead b1\n".as_slice(),
     );
     Ok(())
 }
@@ -184,10 +185,16 @@ fn what_is_no_save_file_of_the_program_is_refused(rt: HostRuntime) -> Result<(),
     let spoiled =
         "safetynet-save 1\nconfig 1 16 4 256\nmarks 1 3 7\nrec 0 00000000 0\nrec 0 00000000 0\nrec 0 00000001 0\nend\n";
     let refused = refusal(&rt, alloc, PUTS_A, spoiled)?;
-    assert_eq!(rt; refused, Some(SaveFault::Refused(SaveCause::NotLegal(3))));
+    is_so(
+        &rt,
+        refused == Some(SaveFault::Refused(SaveCause::NotLegal(3))),
+    );
     let cut =
         "safetynet-save 1\nconfig 1 16 4 256\nmarks 1 3 7\nrec 0 00000000 0\nrec 0 00000000 0\nrec 0 00000000 0\n";
     let refused = refusal(&rt, alloc, PUTS_A, cut)?;
-    assert_eq!(rt; refused, Some(SaveFault::Refused(SaveCause::BadLine(7))));
+    is_so(
+        &rt,
+        refused == Some(SaveFault::Refused(SaveCause::BadLine(7))),
+    );
     Ok(())
 }

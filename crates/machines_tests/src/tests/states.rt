@@ -1,4 +1,5 @@
 //! Each schedule is played on a machine; the texts of its parts are those that stand beside it, which the definitions give.
+use super::is_so;
 use elf_load::load;
 use machine_states::{
     add_controller, add_flights, add_home, add_net, add_node, add_other_home, is_as_at_start,
@@ -200,7 +201,7 @@ fn a_home_as_at_the_start_can_be_told_whole(rt: HostRuntime) -> Result<(), Fail>
     let alloc = rt.alloc();
     let machine = after(&rt, alloc, 1, ECHOES, "")?;
     let block = BlockNo::new(0);
-    assert!(rt; is_as_at_start(&machine, block));
+    is_so(&rt, is_as_at_start(&machine, block));
     let mut text = Vec::new(alloc);
     let done = add_other_home(&mut text, &machine, block);
     is_text(

@@ -1,4 +1,5 @@
 //! What is counted of a run, and how it is written.
+use super::is_so;
 use elf_load::load;
 use run_statistics::{Count, StatisticsFault, put_statistics, statistics_text};
 use sn_base::Config;
@@ -368,8 +369,8 @@ fn a_report_that_breaks_has_a_beginning_of_the_lines(rt: HostRuntime) -> Result<
     let mut report = MemSink::with_room(rt.alloc(), 8_192)?;
     report.fail_call(1)?;
     let ended = put_of(&rt, rt.alloc(), &RECOVERS, &mut report)?;
-    assert!(rt; matches!(ended, Err(StatisticsFault::Sink)));
-    assert!(rt; RECOVERS.lines.as_bytes().starts_with(report.bytes()));
+    is_so(&rt, matches!(ended, Err(StatisticsFault::Sink)));
+    is_so(&rt, RECOVERS.lines.as_bytes().starts_with(report.bytes()));
     Ok(())
 }
 
@@ -384,9 +385,10 @@ fn text_of_none(rt: &impl Abort, alloc: Global, row: &Row) -> Result<Vec<u8>, Fa
 #[test]
 fn nothing_is_counted_of_a_run_without_an_event(rt: HostRuntime) -> Result<(), Fail> {
     let text = text_of_none(&rt, rt.alloc(), &RECOVERS)?;
-    assert!(rt;
+    is_so(
+        &rt,
         text.as_slice()
-            .starts_with(b"stat events 0\nstat retired 0\n".as_slice())
+            .starts_with(b"stat events 0\nstat retired 0\n".as_slice()),
     );
     Ok(())
 }
@@ -398,13 +400,13 @@ fn a_count_that_was_told_of_nothing_has_the_text_of_a_run_without_an_event(
     let text = text_of_none(&rt, rt.alloc(), &RECOVERS)?;
     let count = Count::new(rt.alloc(), true);
     let counted = count.text(rt.alloc(), RECOVERS.nodes)?;
-    assert!(rt; counted.as_slice() == text.as_slice());
+    is_so(&rt, counted.as_slice() == text.as_slice());
     Ok(())
 }
 
 #[test]
 fn a_count_that_is_not_asked_to_count_has_no_text(rt: HostRuntime) -> Result<(), Fail> {
     let count = Count::new(rt.alloc(), false);
-    assert!(rt; count.text(rt.alloc(), 1).is_err());
+    is_so(&rt, count.text(rt.alloc(), 1).is_err());
     Ok(())
 }

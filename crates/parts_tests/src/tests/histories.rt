@@ -1,4 +1,5 @@
 //! Records are committed in order of their intervals.
+use super::is_so;
 use rv_core::Record;
 use sn_base::NodeId;
 use sn_history::*;
@@ -23,18 +24,18 @@ fn records_are_committed_in_order_of_their_intervals(rt: HostRuntime) -> Result<
     history.add(0, record(other, 1, None));
     history.add(1, record(other, 4, Some(8)));
     history.add(0, record(node, 2, Some(9)));
-    assert_eq!(rt; (history.taken(node), history.taken(other)), (2, 1));
-    assert_eq!(rt;
-        (history.pending().len(), history.pending()[1].interval),
-        (4, 0)
+    is_so(&rt, (history.taken(node), history.taken(other)) == (2, 1));
+    is_so(
+        &rt,
+        (history.pending().len(), history.pending()[1].interval) == (4, 0),
     );
     history.commit_below(1);
     let seen = history.committed();
-    assert_eq!(rt; seen.len(), 2);
-    assert!(rt; seen[0].seen == 1 && seen[1].seen == 2);
+    is_so(&rt, seen.len() == 2);
+    is_so(&rt, seen[0].seen == 1 && seen[1].seen == 2);
     history.drop_pending();
-    assert_eq!(rt; (history.taken(node), history.taken(other)), (1, 0));
+    is_so(&rt, (history.taken(node), history.taken(other)) == (1, 0));
     history.commit_below(2);
-    assert_eq!(rt; (history.committed().len(), history.spare()), (2, 0));
+    is_so(&rt, (history.committed().len(), history.spare()) == (2, 0));
     Ok(())
 }

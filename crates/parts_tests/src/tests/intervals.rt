@@ -1,4 +1,5 @@
 //! Entries that are taken back or given on by their intervals.
+use super::is_so;
 use interval_list::*;
 use std::test::Fail;
 
@@ -11,12 +12,12 @@ fn entries_are_committed_in_order_of_their_intervals(rt: HostRuntime) -> Result<
             list.add(interval, entry);
         }
     }
-    assert_eq!(rt; (list.waiting().len(), list.spare()), (5, 0));
+    is_so(&rt, (list.waiting().len(), list.spare()) == (5, 0));
     list.commit_below(2);
-    assert_eq!(rt; list.committed(), b"abcd".as_slice());
+    is_so(&rt, list.committed() == b"abcd".as_slice());
     list.drop_from(2);
     list.commit_below(3);
-    assert_eq!(rt; list.committed(), b"abcd".as_slice());
+    is_so(&rt, list.committed() == b"abcd".as_slice());
     the_next_point_commits_one_interval::<u8>();
     Ok(())
 }

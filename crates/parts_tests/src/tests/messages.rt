@@ -1,4 +1,5 @@
 //! Kinds of messages, and messages that differ in a field.
+use super::is_so;
 use sn_base::{Block, BlockNo, NodeId};
 use sn_msg::*;
 
@@ -33,7 +34,7 @@ fn a_body_equals_itself_and_no_other_kind(rt: HostRuntime) {
     let bodies = all_bodies(node);
     for (place, body) in bodies.iter().enumerate() {
         for (other_place, other) in bodies.iter().enumerate() {
-            assert!(rt; (*body == *other) == (place == other_place));
+            is_so(&rt, (*body == *other) == (place == other_place));
         }
     }
 }
@@ -52,12 +53,13 @@ fn a_message_is_a_copy_with_all_its_fields(rt: HostRuntime) {
         body: Body::Unblock(3),
     };
     let copy = message;
-    assert!(rt; copy == message);
-    assert!(rt;
+    is_so(&rt, copy == message);
+    is_so(
+        &rt,
         copy != Message {
             body: Body::Unblock(4),
             ..message
-        }
+        },
     );
-    assert!(rt; copy != Message { id: 8, ..message });
+    is_so(&rt, copy != Message { id: 8, ..message });
 }

@@ -1,6 +1,7 @@
 //! Messages on their way, as the rules give them.
 ghost use Rattle.std.specs.Prelude.{◌≡◌, ◌<◌};
 
+use super::is_so;
 use sn_base::{BlockNo, NodeId, SwitchId};
 use sn_msg::Body;
 use std::process::Abort;
@@ -18,12 +19,12 @@ fn send_ready(rt: &impl Abort, net: &mut Net, from: NodeId, to: NodeId) -> bool
     requires receiver { to < net.old.routes.nodes }
     ensures { net.new.routes ≡ net.old.routes }
 {
-    assert!(rt; net.spare() > 0 && net.next_id() < u64::MAX);
+    is_so(rt, net.spare() > 0 && net.next_id() < u64::MAX);
     net.send(from, to, 0, BlockNo::new(0), Body::Ready(0))
 }
 
 fn place_of_first(rt: &impl Abort, net: &Net) -> (u64, SwitchId) {
-    assert!(rt; net.count() > 0);
+    is_so(rt, net.count() > 0);
     let (message, at) = net.message(0);
     (message.id, at)
 }
@@ -32,27 +33,30 @@ fn place_of_first(rt: &impl Abort, net: &Net) -> (u64, SwitchId) {
 fn a_message_goes_round_a_dead_switch_after_a_recovery(rt: HostRuntime) -> Result<(), Fail> {
     let (zero, one) = (node(&rt, 0), node(&rt, 1));
     let mut net = Net::new(rt.alloc(), 4)?;
-    assert!(rt; send_ready(&rt, &mut net, one, zero));
-    assert!(rt; place_of_first(&rt, &net) == (1, SwitchId::a(one)));
-    assert!(rt; net.kill(SwitchId::a(zero)));
-    assert!(rt; net.look_hop(1) == HopAnswer::LostInDead);
-    assert!(rt; net.hop(1) == HopAnswer::LostInDead);
-    assert!(rt; net.hop(1) == HopAnswer::NoMessage);
-    assert!(rt; !send_ready(&rt, &mut net, zero, zero));
-    assert!(rt; net.count() == 0 && net.next_id() == 3);
-    assert!(rt; net.recover() == Ok(0));
-    assert!(rt; send_ready(&rt, &mut net, one, zero));
-    assert!(rt; place_of_first(&rt, &net) == (3, SwitchId::b(one)));
+    is_so(&rt, send_ready(&rt, &mut net, one, zero));
+    is_so(&rt, place_of_first(&rt, &net) == (1, SwitchId::a(one)));
+    is_so(&rt, net.kill(SwitchId::a(zero)));
+    is_so(&rt, net.look_hop(1) == HopAnswer::LostInDead);
+    is_so(&rt, net.hop(1) == HopAnswer::LostInDead);
+    is_so(&rt, net.hop(1) == HopAnswer::NoMessage);
+    is_so(&rt, !send_ready(&rt, &mut net, zero, zero));
+    is_so(&rt, net.count() == 0 && net.next_id() == 3);
+    is_so(&rt, net.recover() == Ok(0));
+    is_so(&rt, send_ready(&rt, &mut net, one, zero));
+    is_so(&rt, place_of_first(&rt, &net) == (3, SwitchId::b(one)));
     for _ in 0..5 {
-        assert!(rt; net.look(3) == Err(TakeFault::NotArrived));
-        assert!(rt; net.hop(3) == HopAnswer::Hopped);
+        is_so(&rt, net.look(3) == Err(TakeFault::NotArrived));
+        is_so(&rt, net.hop(3) == HopAnswer::Hopped);
     }
-    assert!(rt; net.hop(3) == HopAnswer::Arrived);
-    assert!(rt; place_of_first(&rt, &net) == (3, SwitchId::b(zero)));
+    is_so(&rt, net.hop(3) == HopAnswer::Arrived);
+    is_so(&rt, place_of_first(&rt, &net) == (3, SwitchId::b(zero)));
     let Ok(message) = net.take(3) else {
         return Err(Fail::from("the message has arrived"));
     };
-    assert!(rt; message.id == 3 && message.from == one && message.to == zero);
+    is_so(
+        &rt,
+        message.id == 3 && message.from == one && message.to == zero,
+    );
     Ok(())
 }
 
@@ -60,14 +64,20 @@ fn a_message_goes_round_a_dead_switch_after_a_recovery(rt: HostRuntime) -> Resul
 fn a_node_without_a_living_switch_refuses_a_recovery(rt: HostRuntime) -> Result<(), Fail> {
     let zero = node(&rt, 0);
     let mut net = Net::new(rt.alloc(), 4)?;
-    assert!(rt; net.cut_off() == None);
-    assert!(rt; send_ready(&rt, &mut net, zero, zero));
-    assert!(rt; net.kill(SwitchId::b(zero)) && !net.kill(SwitchId::b(zero)));
-    assert!(rt; net.count() == 1);
-    assert!(rt; net.kill(SwitchId::a(zero)) && net.is_dead(SwitchId::a(zero)));
-    assert!(rt; net.count() == 0);
-    assert!(rt; net.cut_off() == Some((zero, zero)));
-    assert!(rt; net.recover() == Err((zero, zero)));
+    is_so(&rt, net.cut_off() == None);
+    is_so(&rt, send_ready(&rt, &mut net, zero, zero));
+    is_so(
+        &rt,
+        net.kill(SwitchId::b(zero)) && !net.kill(SwitchId::b(zero)),
+    );
+    is_so(&rt, net.count() == 1);
+    is_so(
+        &rt,
+        net.kill(SwitchId::a(zero)) && net.is_dead(SwitchId::a(zero)),
+    );
+    is_so(&rt, net.count() == 0);
+    is_so(&rt, net.cut_off() == Some((zero, zero)));
+    is_so(&rt, net.recover() == Err((zero, zero)));
     Ok(())
 }
 
@@ -75,12 +85,18 @@ fn a_node_without_a_living_switch_refuses_a_recovery(rt: HostRuntime) -> Result<
 fn a_message_is_lost_once(rt: HostRuntime) -> Result<(), Fail> {
     let (zero, one) = (node(&rt, 0), node(&rt, 1));
     let mut net = Net::new(rt.alloc(), 2)?;
-    assert!(rt; send_ready(&rt, &mut net, zero, one) && send_ready(&rt, &mut net, one, one));
-    assert!(rt; net.take(1) == Err(TakeFault::NotArrived));
-    assert!(rt; net.look(2).is_ok() && net.lose(1) && !net.lose(1));
-    assert!(rt; net.take(1) == Err(TakeFault::NoMessage));
-    assert!(rt; net.look_hop(1) == HopAnswer::NoMessage && net.look_hop(2) == HopAnswer::Arrived);
-    assert!(rt; net.recover() == Ok(1));
-    assert!(rt; net.spare() == 1024);
+    is_so(
+        &rt,
+        send_ready(&rt, &mut net, zero, one) && send_ready(&rt, &mut net, one, one),
+    );
+    is_so(&rt, net.take(1) == Err(TakeFault::NotArrived));
+    is_so(&rt, net.look(2).is_ok() && net.lose(1) && !net.lose(1));
+    is_so(&rt, net.take(1) == Err(TakeFault::NoMessage));
+    is_so(
+        &rt,
+        net.look_hop(1) == HopAnswer::NoMessage && net.look_hop(2) == HopAnswer::Arrived,
+    );
+    is_so(&rt, net.recover() == Ok(1));
+    is_so(&rt, net.spare() == 1024);
     Ok(())
 }

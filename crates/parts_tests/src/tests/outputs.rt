@@ -1,4 +1,5 @@
 //! Bytes are released in order of their intervals.
+use super::is_so;
 use output_commit::*;
 use std::test::Fail;
 
@@ -11,12 +12,12 @@ fn bytes_are_released_in_order_of_their_intervals(rt: HostRuntime) -> Result<(),
     output.put(1, b'd');
     output.put(0, b'b');
     output.put(2, b'e');
-    assert!(rt; output.released().is_empty());
-    assert_eq!(rt; output.held().len(), 5);
+    is_so(&rt, output.released().is_empty());
+    is_so(&rt, output.held().len() == 5);
     output.release_below(2);
-    assert_eq!(rt; output.released(), b"abcd".as_slice());
+    is_so(&rt, output.released() == b"abcd".as_slice());
     output.drop_from(2);
     output.release_below(3);
-    assert_eq!(rt; output.released(), b"abcd".as_slice());
+    is_so(&rt, output.released() == b"abcd".as_slice());
     Ok(())
 }

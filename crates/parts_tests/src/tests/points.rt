@@ -1,4 +1,5 @@
 //! The recovery point moves once every node is ready.
+use super::is_so;
 use sn_base::NodeId;
 use validation::*;
 
@@ -8,19 +9,19 @@ fn the_point_moves_once_every_node_is_ready(rt: HostRuntime) {
     let first = NodeId::new(0).unwrap();
     let second = NodeId::new(1).unwrap();
     let behind = |node, reported| Err(NotReady { node, reported });
-    assert_eq!(rt; controller.check(), behind(first, 0));
+    is_so(&rt, controller.check() == behind(first, 0));
     controller.ready(first, 2);
     controller.ready(first, 1);
-    assert_eq!(rt; controller.advance(), behind(second, 0));
+    is_so(&rt, controller.advance() == behind(second, 0));
     controller.ready(second, 1);
-    assert_eq!(rt; controller.check(), Ok(1));
-    assert_eq!(rt; controller.point(), 0);
-    assert_eq!(rt; controller.advance(), Ok(1));
-    assert_eq!(rt; controller.check(), behind(second, 1));
+    is_so(&rt, controller.check() == Ok(1));
+    is_so(&rt, controller.point() == 0);
+    is_so(&rt, controller.advance() == Ok(1));
+    is_so(&rt, controller.check() == behind(second, 1));
     controller.reset();
-    assert_eq!(rt; controller.check(), behind(first, 1));
-    assert_eq!(rt; controller.point(), 1);
-    assert_eq!(rt; controller.reported(), [1, 1].as_slice());
+    is_so(&rt, controller.check() == behind(first, 1));
+    is_so(&rt, controller.point() == 1);
+    is_so(&rt, controller.reported() == [1, 1].as_slice());
 }
 
 #[test]
@@ -29,9 +30,9 @@ fn a_controller_goes_on_from_its_point(rt: HostRuntime) {
     let first = NodeId::new(0).unwrap();
     let second = NodeId::new(1).unwrap();
     let behind = |node, reported| Err(NotReady { node, reported });
-    assert_eq!(rt; controller.point(), 7);
+    is_so(&rt, controller.point() == 7);
     controller.ready(second, 8);
-    assert_eq!(rt; controller.check(), behind(first, 7));
+    is_so(&rt, controller.check() == behind(first, 7));
     controller.ready(first, 8);
-    assert_eq!(rt; controller.advance(), Ok(8));
+    is_so(&rt, controller.advance() == Ok(8));
 }

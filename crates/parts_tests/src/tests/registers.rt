@@ -1,4 +1,5 @@
 //! Checkpoints of a core, kept by their numbers.
+use super::is_so;
 use reg_ckpt::*;
 use rv_core::{CoreState, End};
 use sn_base::BlockNo;
@@ -20,25 +21,31 @@ fn checkpoints_are_kept_by_their_numbers(rt: HostRuntime) -> Result<(), Fail> {
     kept.take(2, core(8));
     kept.take(3, core(12));
     kept.take(4, core(16));
-    assert_eq!(rt; kept.get(0).pc, 0);
-    assert!(rt; kept.get(1).pc == 4 && kept.get(1).reservation.is_none());
+    is_so(&rt, kept.get(0).pc == 0);
+    is_so(
+        &rt,
+        kept.get(1).pc == 4 && kept.get(1).reservation.is_none(),
+    );
     kept.free_below(1);
     kept.take(5, core(20));
-    assert_eq!(rt; kept.get(1).pc, 4);
+    is_so(&rt, kept.get(1).pc == 4);
     kept.drop_above(2);
-    assert_eq!(rt; (kept.get(2).pc, kept.get(2).x[31]), (8, 3));
+    is_so(&rt, (kept.get(2).pc, kept.get(2).x[31]) == (8, 3));
     kept.take(3, core(24));
     kept.free_below(3);
-    assert_eq!(rt; kept.get(3).pc, 24);
+    is_so(&rt, kept.get(3).pc == 24);
     Ok(())
 }
 
 #[test]
 fn checkpoints_begin_at_the_point(rt: HostRuntime) -> Result<(), Fail> {
     let mut kept = RegCheckpoints::at(rt.alloc(), 7, core(28))?;
-    assert!(rt; kept.get(7).pc == 28 && kept.get(7).reservation.is_none());
+    is_so(
+        &rt,
+        kept.get(7).pc == 28 && kept.get(7).reservation.is_none(),
+    );
     kept.take(8, core(32));
     kept.free_below(8);
-    assert_eq!(rt; kept.get(8).pc, 32);
+    is_so(&rt, kept.get(8).pc == 32);
     Ok(())
 }

@@ -1,6 +1,7 @@
 //! Walks that the rules give, and all distances against links that these tests make themselves.
 ghost use Rattle.std.specs.Prelude.{◌≡◌, ◌*◌, ◌<◌, ◌≤◌};
 
+use super::is_so;
 use route_plan::{Dead, PlanFault, Routes, cut_off, plan};
 use sn_base::{NodeId, SwitchId};
 use std::alloc::{AllocError, Global};
@@ -93,14 +94,14 @@ fn agrees_at(rt: &impl Abort, alloc: Global, rows: u32, columns: u32) -> Result<
     requires few { 2 * (rows * columns) ≤ 32 }
 {
     let nodes = (rows * columns) as u8;
-    assert!(rt; cut_off(nodes, Dead::none()) == None);
+    is_so(rt, cut_off(nodes, Dead::none()) == None);
     let routes = plan(alloc, nodes, Dead::none())?;
     for to in 0..nodes {
         let links = links_by_trying(rows, columns, usize::from(to));
         for from in 0..nodes {
             let walk = walk_of(alloc, &routes, node(rt, from), node(rt, to))?;
             let fewest = links[2 * usize::from(from)].min(links[2 * usize::from(from) + 1]);
-            assert!(rt; walk.len() as u64 == u64::from(fewest) + 1);
+            is_so(rt, walk.len() as u64 == u64::from(fewest) + 1);
         }
     }
     Ok(())
@@ -120,12 +121,15 @@ fn a_walk_goes_round_a_dead_switch(rt: HostRuntime) -> Result<(), Fail> {
     let (zero, one) = (node(&rt, 0), node(&rt, 1));
     let mut routes = plan(rt.alloc(), 4, Dead::none())?;
     let walk = walk_of(rt.alloc(), &routes, one, zero)?;
-    assert!(rt; walk.as_slice() == [2, 0].as_slice());
+    is_so(&rt, walk.as_slice() == [2, 0].as_slice());
     let dead = Dead::none().with(SwitchId::a(zero));
-    assert!(rt; dead.has(SwitchId::a(zero)) && !dead.has(SwitchId::b(zero)));
-    assert!(rt; routes.replan(dead).is_ok());
+    is_so(
+        &rt,
+        dead.has(SwitchId::a(zero)) && !dead.has(SwitchId::b(zero)),
+    );
+    is_so(&rt, routes.replan(dead).is_ok());
     let walk = walk_of(rt.alloc(), &routes, one, zero)?;
-    assert!(rt; walk.as_slice() == [3, 7, 6, 4, 5, 1].as_slice());
+    is_so(&rt, walk.as_slice() == [3, 7, 6, 4, 5, 1].as_slice());
     Ok(())
 }
 
@@ -134,11 +138,14 @@ fn a_node_without_a_living_switch_is_cut_off_from_itself(rt: HostRuntime) -> Res
     let zero = node(&rt, 0);
     let dead = Dead::none().with(SwitchId::a(zero)).with(SwitchId::b(zero));
     let mut routes = plan(rt.alloc(), 4, Dead::none())?;
-    assert!(rt; routes.replan(dead) == Err((zero, zero)));
+    is_so(&rt, routes.replan(dead) == Err((zero, zero)));
     let walk = walk_of(rt.alloc(), &routes, node(&rt, 1), zero)?;
-    assert!(rt; walk.as_slice() == [2, 0].as_slice());
-    assert!(rt; cut_off(4, dead) == Some((zero, zero)));
-    assert!(rt; plan(rt.alloc(), 4, dead).err() == Some(PlanFault::CutOff(zero, zero)));
+    is_so(&rt, walk.as_slice() == [2, 0].as_slice());
+    is_so(&rt, cut_off(4, dead) == Some((zero, zero)));
+    is_so(
+        &rt,
+        plan(rt.alloc(), 4, dead).err() == Some(PlanFault::CutOff(zero, zero)),
+    );
     Ok(())
 }
 
@@ -147,7 +154,10 @@ fn a_ring_of_two_has_one_link(rt: HostRuntime) -> Result<(), Fail> {
     let (zero, one) = (node(&rt, 0), node(&rt, 1));
     let routes = plan(rt.alloc(), 2, Dead::none())?;
     let walk = walk_of(rt.alloc(), &routes, zero, one)?;
-    assert!(rt; walk.as_slice() == [0, 2].as_slice());
-    assert!(rt; cut_off(2, Dead::none().with(SwitchId::a(zero))) == Some((zero, one)));
+    is_so(&rt, walk.as_slice() == [0, 2].as_slice());
+    is_so(
+        &rt,
+        cut_off(2, Dead::none().with(SwitchId::a(zero))) == Some((zero, one)),
+    );
     Ok(())
 }

@@ -2,6 +2,7 @@
 ghost use Rattle.std.specs.Prelude.{IfOk};
 ghost use Rattle.script_replay.specs.Played.{MayBegin};
 
+use super::is_so;
 use accesses_replay::replay_accesses;
 use elf_load::load;
 use script_replay::{Replay, ReplayFault, ReportKind, Script, Showing};
@@ -86,8 +87,8 @@ fn the_rows_of_the_committed_trace_stand_before_the_marked_summary(
     let alloc = rt.alloc();
     let mut report = MemSink::with_room(alloc, 4_096)?;
     let ended = replayed(&rt, alloc, 0, &mut report)?;
-    assert!(rt; ended.is_ok());
-    assert!(rt; report.bytes() == REPORT.as_bytes());
+    is_so(&rt, ended.is_ok());
+    is_so(&rt, report.bytes() == REPORT.as_bytes());
     Ok(())
 }
 
@@ -96,9 +97,10 @@ fn a_report_that_breaks_has_the_lines_before(rt: HostRuntime) -> Result<(), Fail
     let alloc = rt.alloc();
     let mut report = MemSink::with_room(alloc, 4_096)?;
     let ended = replayed(&rt, alloc, 2, &mut report)?;
-    assert!(rt; ended == Err(ReplayFault::Sink));
-    assert!(rt;
-        report.bytes() == b"core,pc,instruction,address,size,read,written,done\n".as_slice()
+    is_so(&rt, ended == Err(ReplayFault::Sink));
+    is_so(
+        &rt,
+        report.bytes() == b"core,pc,instruction,address,size,read,written,done\n".as_slice(),
     );
     Ok(())
 }

@@ -2,6 +2,7 @@
 ghost use Rattle.std.specs.Prelude.{IfOk};
 ghost use Rattle.script_replay.specs.Played.{MayBegin};
 
+use super::is_so;
 use counted_replay::replay_counted;
 use elf_load::load;
 use run_statistics::statistics_text;
@@ -87,9 +88,9 @@ fn the_statistics_stand_behind_the_summary(rt: HostRuntime) -> Result<(), Fail> 
     let alloc = rt.alloc();
     let mut report = MemSink::with_room(alloc, 8_192)?;
     let ended = counted(&rt, alloc, 0, &mut report)?;
-    assert!(rt; ended.is_ok());
+    is_so(&rt, ended.is_ok());
     let wanted = wanted(&rt, alloc)?;
-    assert!(rt; report.bytes() == wanted.as_slice());
+    is_so(&rt, report.bytes() == wanted.as_slice());
     Ok(())
 }
 
@@ -98,13 +99,14 @@ fn a_report_that_breaks_in_the_statistics_has_all_before_them(rt: HostRuntime) -
     let alloc = rt.alloc();
     let mut report = MemSink::with_room(alloc, 8_192)?;
     let ended = counted(&rt, alloc, 3, &mut report)?;
-    assert!(rt; ended == Err(ReplayFault::Sink));
+    is_so(&rt, ended == Err(ReplayFault::Sink));
     let wanted = wanted(&rt, alloc)?;
-    assert!(rt; wanted.as_slice().starts_with(report.bytes()));
-    assert!(rt;
+    is_so(&rt, wanted.as_slice().starts_with(report.bytes()));
+    is_so(
+        &rt,
         report
             .bytes()
-            .starts_with(b"1 recover: recovered 0 undone 0 dropped 0\n".as_slice())
+            .starts_with(b"1 recover: recovered 0 undone 0 dropped 0\n".as_slice()),
     );
     Ok(())
 }

@@ -4,6 +4,7 @@ ghost use Rattle.driven_replay.specs.Driven.{MayDrive};
 ghost use Rattle.driven_replay.specs.Pieces.{watch_of};
 ghost use Rattle.shown_states.specs.Shown.{MayBegin};
 
+use super::is_so;
 use driven_replay::{Drive, DriveEnd, DriveFault, DriveShowing, drive};
 use elf_load::load;
 use line_source::MemLines;
@@ -153,8 +154,8 @@ fn comes_to(
 
 /// A row's lines drive its machine to their end, and the report begins as it says.
 fn is_answered(rt: &impl Abort, alloc: Global, row: &Row) -> Result<(), Fail> {
-    let is_so = comes_to(rt, alloc, row, Ok(DriveEnd::Whole))?;
-    assert!(rt; is_so);
+    let is_met = comes_to(rt, alloc, row, Ok(DriveEnd::Whole))?;
+    assert!(rt; is_met);
     Ok(())
 }
 
@@ -188,8 +189,8 @@ fn a_source_that_fails_ends_it_once_what_was_read_is_answered(rt: HostRuntime) -
         begins: "1 validate: notready 0\n",
         ..ONE
     };
-    let is_so = comes_to(&rt, rt.alloc(), &ROW, Err(DriveFault::Input))?;
-    assert!(rt; is_so);
+    let is_met = comes_to(&rt, rt.alloc(), &ROW, Err(DriveFault::Input))?;
+    is_so(&rt, is_met);
     Ok(())
 }
 
@@ -222,7 +223,7 @@ fn a_report_that_fails_ends_it_before_another_line_is_read(rt: HostRuntime) -> R
     let ended = ends_at_the_call(&rt, rt.alloc(), &mut report);
     drop(report);
     let is_ended = ended?;
-    assert!(rt; is_ended);
+    is_so(&rt, is_ended);
     Ok(())
 }
 
@@ -364,7 +365,7 @@ fn after_a_way_back_all_goes_on_as_if_the_others_had_not_been(rt: HostRuntime) -
     drop(returned);
     drop(straight);
     let is_ended = ended?;
-    assert!(rt; is_ended && is_same);
+    is_so(&rt, is_ended && is_same);
     Ok(())
 }
 
@@ -453,7 +454,7 @@ fn where_states_are_shown_it_puts_what_a_replay_puts(rt: HostRuntime) -> Result<
     drop(report);
     drop(wanted);
     let is_ended = ended?;
-    assert!(rt; is_ended && is_same);
+    is_so(&rt, is_ended && is_same);
     Ok(())
 }
 
@@ -502,6 +503,6 @@ fn states_after_a_way_back_are_those_of_the_events_that_are_left(
     drop(returned);
     drop(straight);
     let is_ended = ended?;
-    assert!(rt; is_ended && is_same);
+    is_so(&rt, is_ended && is_same);
     Ok(())
 }

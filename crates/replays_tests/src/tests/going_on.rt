@@ -2,6 +2,7 @@
 ghost use Rattle.std.specs.Prelude.{IfOk};
 ghost use Rattle.resumed_replay.specs.Shown.{MayGoOn};
 
+use super::is_so;
 use elf_load::load;
 use resumed_replay::{ResumedReplay, replay_resumed};
 use script_replay::{ReplayFault, Script};
@@ -71,9 +72,9 @@ fn places_are_counted_from_where_it_goes_on(rt: HostRuntime) -> Result<(), Fail>
     let mut console = MemSink::with_room(alloc, 8)?;
     let mut report = MemSink::with_room(alloc, 4_096)?;
     let ended = replayed(&rt, alloc, 0, &mut console, &mut report)?;
-    assert!(rt; ended.is_ok());
-    assert!(rt; console.bytes().is_empty());
-    assert!(rt; report.bytes() == REPORT.as_bytes());
+    is_so(&rt, ended.is_ok());
+    is_so(&rt, console.bytes().is_empty());
+    is_so(&rt, report.bytes() == REPORT.as_bytes());
     Ok(())
 }
 
@@ -83,7 +84,7 @@ fn a_report_that_breaks_has_the_groups_before(rt: HostRuntime) -> Result<(), Fai
     let mut console = MemSink::with_room(alloc, 8)?;
     let mut report = MemSink::with_room(alloc, 4_096)?;
     let ended = replayed(&rt, alloc, 2, &mut console, &mut report)?;
-    assert!(rt; ended == Err(ReplayFault::Sink));
-    assert!(rt; report.bytes() == b"1 step 0: retired\n".as_slice());
+    is_so(&rt, ended == Err(ReplayFault::Sink));
+    is_so(&rt, report.bytes() == b"1 step 0: retired\n".as_slice());
     Ok(())
 }

@@ -1,6 +1,7 @@
 //! Runs of a few sizes, beside what the reference simulator makes of the same.
 ghost use Rattle.std.specs.Prelude.{◌≤◌};
 
+use super::is_so;
 use generated_runs::replay_generated;
 use script_replay::{ReplayFault, ReportKind, Showing};
 use sn_base::Memory;
@@ -74,7 +75,7 @@ fn a_run_of_24_events(rt: HostRuntime) -> Result<(), Fail> {
     let lines = event_lines(rt.alloc(), report.bytes())?;
     assert!(rt; lines.len() == rows.len());
     for (line, row) in lines.iter().zip(&rows) {
-        assert!(rt; line.starts_with(row.as_bytes()));
+        is_so(&rt, line.starts_with(row.as_bytes()));
     }
     Ok(())
 }
@@ -98,7 +99,7 @@ fn a_run_of_300_events_loses_a_message_after_its_first_validation(
     assert!(rt; lines.len() == 300);
     for (place, row) in &rows {
         assert!(rt; *place < lines.len());
-        assert!(rt; lines[*place].starts_with(row.as_bytes()));
+        is_so(&rt, lines[*place].starts_with(row.as_bytes()));
     }
     Ok(())
 }

@@ -2,6 +2,7 @@
 ghost use Rattle.std.specs.Prelude.{IfOk};
 ghost use Rattle.saved_replay.specs.Shown.{MaySave};
 
+use super::is_so;
 use elf_load::load;
 use saved_replay::{SavedReplay, replay_saved};
 use script_replay::{ReplayFault, Script};
@@ -69,9 +70,9 @@ fn what_is_released_goes_to_the_console_and_the_save_file_is_the_report(
     let mut console = MemSink::with_room(alloc, 8)?;
     let mut report = MemSink::with_room(alloc, 4_096)?;
     let ended = replayed(&rt, alloc, 0, &mut console, &mut report)?;
-    assert!(rt; ended.is_ok());
-    assert!(rt; console.bytes() == b"A".as_slice());
-    assert!(rt; report.bytes() == SAVED.as_bytes());
+    is_so(&rt, ended.is_ok());
+    is_so(&rt, console.bytes() == b"A".as_slice());
+    is_so(&rt, report.bytes() == SAVED.as_bytes());
     Ok(())
 }
 
@@ -81,7 +82,10 @@ fn a_report_that_breaks_has_the_lines_before(rt: HostRuntime) -> Result<(), Fail
     let mut console = MemSink::with_room(alloc, 8)?;
     let mut report = MemSink::with_room(alloc, 4_096)?;
     let ended = replayed(&rt, alloc, 3, &mut console, &mut report)?;
-    assert!(rt; ended == Err(ReplayFault::Sink));
-    assert!(rt; report.bytes() == b"safetynet-save 1\nconfig 1 16 4 256\n".as_slice());
+    is_so(&rt, ended == Err(ReplayFault::Sink));
+    is_so(
+        &rt,
+        report.bytes() == b"safetynet-save 1\nconfig 1 16 4 256\n".as_slice(),
+    );
     Ok(())
 }

@@ -2,6 +2,7 @@
 ghost use Rattle.std.specs.Prelude.{IfOk};
 ghost use Rattle.monitor_run.specs.Shown.{MayBegin};
 
+use super::is_so;
 use elf_load::load;
 use monitor_run::{Ending, Monitor, RunFault, monitor};
 use sn_base::{Config, Rules};
@@ -86,14 +87,15 @@ fn the_last_cut_is_seen_and_then_the_summary_is_put(rt: HostRuntime) -> Result<(
     let mut report = MemSink::with_room(alloc, 512)?;
     let job = job(&rt, alloc, PUTS_A, 100, 10_000)?;
     let ended = watched(&rt, alloc, job, &mut console, &mut report);
-    assert!(rt; has_exited(&ended));
-    assert_eq!(rt; console.bytes(), b"A".as_slice());
+    is_so(&rt, has_exited(&ended));
+    is_so(&rt, console.bytes() == b"A".as_slice());
     let text = report.bytes();
-    assert!(rt; text.starts_with(b"seen 1 5\nevents ".as_slice()));
-    assert!(rt;
+    is_so(&rt, text.starts_with(b"seen 1 5\nevents ".as_slice()));
+    is_so(
+        &rt,
         text.ends_with(
-            b"\npoint 1\ncommitted 5\nreleased 1\ncore 0 80000010 exited 65 x10=00000041 x17=0000005d\n".as_slice()
-        )
+            b"\npoint 1\ncommitted 5\nreleased 1\ncore 0 80000010 exited 65 x10=00000041 x17=0000005d\n".as_slice(),
+        ),
     );
     Ok(())
 }
@@ -105,11 +107,12 @@ fn a_run_that_validates_nothing_has_seen_nothing(rt: HostRuntime) -> Result<(), 
     let mut report = MemSink::with_room(alloc, 512)?;
     let job = job(&rt, alloc, LOOPS, 100, 50)?;
     let ended = watched(&rt, alloc, job, &mut console, &mut report);
-    assert!(rt; is_spent(&ended));
-    assert!(rt;
+    is_so(&rt, is_spent(&ended));
+    is_so(
+        &rt,
         report
             .bytes()
-            .starts_with(b"events 50\npoint 0\ncommitted 0\n".as_slice())
+            .starts_with(b"events 50\npoint 0\ncommitted 0\n".as_slice()),
     );
     Ok(())
 }
@@ -122,8 +125,8 @@ fn where_the_console_fails_the_report_has_nothing(rt: HostRuntime) -> Result<(),
     console.fail_call(1)?;
     let job = job(&rt, alloc, PUTS_A, 100, 10_000)?;
     let ended = watched(&rt, alloc, job, &mut console, &mut report);
-    assert!(rt; has_a_broken_sink(&ended));
-    assert!(rt; console.bytes().is_empty() && report.bytes().is_empty());
+    is_so(&rt, has_a_broken_sink(&ended));
+    is_so(&rt, console.bytes().is_empty() && report.bytes().is_empty());
     Ok(())
 }
 
@@ -135,8 +138,8 @@ fn where_the_report_fails_the_console_has_all(rt: HostRuntime) -> Result<(), Fai
     report.fail_call(2)?;
     let job = job(&rt, alloc, PUTS_A, 100, 10_000)?;
     let ended = watched(&rt, alloc, job, &mut console, &mut report);
-    assert!(rt; has_a_broken_sink(&ended));
-    assert_eq!(rt; console.bytes(), b"A".as_slice());
-    assert_eq!(rt; report.bytes(), b"seen 1 5\n".as_slice());
+    is_so(&rt, has_a_broken_sink(&ended));
+    is_so(&rt, console.bytes() == b"A".as_slice());
+    is_so(&rt, report.bytes() == b"seen 1 5\n".as_slice());
     Ok(())
 }

@@ -2,6 +2,7 @@
 ghost use Rattle.std.specs.Prelude.{IfOk};
 ghost use Rattle.node_run.specs.Shown.{MayBegin};
 
+use super::is_so;
 use elf_load::load;
 use ordered_run::{Ending, Order, Run, RunFault, RunShowing, all_turns, run};
 use sn_base::{Config, Rules, RunReport};
@@ -159,8 +160,8 @@ fn rounds_go_from_worker_0_to_the_last_and_round_again(rt: HostRuntime) -> Resul
     let mut report = MemSink::with_room(alloc, 4_096)?;
     let job = job(&rt, alloc, LOOPS, 4, 9, RunReport::Journal)?;
     let ended = ran(alloc, job, Order::Round, &mut console, &mut report);
-    assert!(rt; is_spent(&ended));
-    assert!(rt; begins_with_turns(report.bytes(), ROUNDS));
+    is_so(&rt, is_spent(&ended));
+    is_so(&rt, begins_with_turns(report.bytes(), ROUNDS));
     Ok(())
 }
 
@@ -171,8 +172,8 @@ fn drawn_turns_are_of_the_workers_that_the_scheduler_draws(rt: HostRuntime) -> R
     let mut report = MemSink::with_room(alloc, 4_096)?;
     let job = job(&rt, alloc, LOOPS, 4, 12, RunReport::Journal)?;
     let ended = ran(alloc, job, Order::Drawn, &mut console, &mut report);
-    assert!(rt; is_spent(&ended));
-    assert!(rt; begins_with_turns(report.bytes(), DRAWN));
+    is_so(&rt, is_spent(&ended));
+    is_so(&rt, begins_with_turns(report.bytes(), DRAWN));
     Ok(())
 }
 
@@ -185,10 +186,10 @@ fn the_same_run_leaves_the_same_bytes(rt: HostRuntime) -> Result<(), Fail> {
     let first = job(&rt, alloc, LOOPS, 4, 2_000, RunReport::Journal)?;
     let second = job(&rt, alloc, LOOPS, 4, 2_000, RunReport::Journal)?;
     let ended = ran(alloc, first, Order::Drawn, &mut console, &mut once);
-    assert!(rt; is_spent(&ended));
+    is_so(&rt, is_spent(&ended));
     let ended = ran(alloc, second, Order::Drawn, &mut console, &mut again);
-    assert!(rt; is_spent(&ended));
-    assert!(rt; once.bytes() == again.bytes());
+    is_so(&rt, is_spent(&ended));
+    is_so(&rt, once.bytes() == again.bytes());
     Ok(())
 }
 
@@ -198,7 +199,10 @@ fn all_turns_are_counted_where_that_is_asked_for(rt: HostRuntime) -> Result<(), 
     let job = job(&rt, alloc, LOOPS, 4, 2_000, RunReport::Summary)?;
     let turned = all_turns(alloc, job, Order::Drawn, true)?;
     assert!(rt; turned.finished.journal.len() == 2_000);
-    assert!(rt; turned.count.on && turned.count.statistics.events == 2_000);
+    is_so(
+        &rt,
+        turned.count.on && turned.count.statistics.events == 2_000,
+    );
     Ok(())
 }
 
@@ -208,7 +212,7 @@ fn turns_that_nobody_asks_to_count_are_had_uncounted(rt: HostRuntime) -> Result<
     let job = job(&rt, alloc, LOOPS, 4, 100, RunReport::Summary)?;
     let turned = all_turns(alloc, job, Order::Round, false)?;
     assert!(rt; turned.finished.journal.len() == 100);
-    assert!(rt; turned.count.statistics.events == 0);
+    is_so(&rt, turned.count.statistics.events == 0);
     Ok(())
 }
 
@@ -219,13 +223,14 @@ fn a_program_that_exits_leaves_its_output_and_the_summary(rt: HostRuntime) -> Re
     let mut report = MemSink::with_room(alloc, 512)?;
     let job = job(&rt, alloc, PUTS_A, 1, 10_000, RunReport::Summary)?;
     let ended = ran(alloc, job, Order::Drawn, &mut console, &mut report);
-    assert!(rt; has_exited(&ended));
-    assert_eq!(rt; console.bytes(), b"A".as_slice());
-    assert!(rt; report.bytes().starts_with(b"events ".as_slice()));
-    assert!(rt;
+    is_so(&rt, has_exited(&ended));
+    is_so(&rt, console.bytes() == b"A".as_slice());
+    is_so(&rt, report.bytes().starts_with(b"events ".as_slice()));
+    is_so(
+        &rt,
         report.bytes().ends_with(
-            b"\npoint 1\ncommitted 5\nreleased 1\ncore 0 80000010 exited 65 x10=00000041 x17=0000005d\n".as_slice()
-        )
+            b"\npoint 1\ncommitted 5\nreleased 1\ncore 0 80000010 exited 65 x10=00000041 x17=0000005d\n".as_slice(),
+        ),
     );
     Ok(())
 }
@@ -237,10 +242,10 @@ fn the_accesses_of_a_run_are_rows_before_a_marked_summary(rt: HostRuntime) -> Re
     let mut report = MemSink::with_room(alloc, 1_024)?;
     let job = job(&rt, alloc, ADDS, 1, 10_000, RunReport::Accesses)?;
     let ended = ran(alloc, job, Order::Round, &mut console, &mut report);
-    assert!(rt; has_exited(&ended));
-    assert!(rt; console.bytes().is_empty());
-    assert!(rt; report.bytes().starts_with(ROWS.as_bytes()));
-    assert!(rt; report.bytes().ends_with(MARKED.as_bytes()));
+    is_so(&rt, has_exited(&ended));
+    is_so(&rt, console.bytes().is_empty());
+    is_so(&rt, report.bytes().starts_with(ROWS.as_bytes()));
+    is_so(&rt, report.bytes().ends_with(MARKED.as_bytes()));
     Ok(())
 }
 
@@ -252,12 +257,13 @@ fn where_the_second_row_fails_the_report_has_the_first(rt: HostRuntime) -> Resul
     report.fail_call(3)?;
     let job = job(&rt, alloc, PUTS_A, 1, 10_000, RunReport::Accesses)?;
     let ended = ran(alloc, job, Order::Round, &mut console, &mut report);
-    assert!(rt; has_a_broken_sink(&ended));
-    assert_eq!(rt; console.bytes(), b"A".as_slice());
-    assert!(rt;
+    is_so(&rt, has_a_broken_sink(&ended));
+    is_so(&rt, console.bytes() == b"A".as_slice());
+    is_so(
+        &rt,
         report
             .bytes()
-            .ends_with(b"done\n0,80000000,\"addi x10, x0, 65\",,,,,\n".as_slice())
+            .ends_with(b"done\n0,80000000,\"addi x10, x0, 65\",,,,,\n".as_slice()),
     );
     Ok(())
 }
@@ -269,7 +275,7 @@ fn a_core_that_traps_ends_the_run(rt: HostRuntime) -> Result<(), Fail> {
     let mut report = MemSink::with_room(alloc, 512)?;
     let job = job(&rt, alloc, TRAPS, 1, 10_000, RunReport::Summary)?;
     let ended = ran(alloc, job, Order::Round, &mut console, &mut report);
-    assert!(rt; has_trapped(&ended));
+    is_so(&rt, has_trapped(&ended));
     Ok(())
 }
 
@@ -281,8 +287,8 @@ fn where_the_console_fails_the_report_has_nothing(rt: HostRuntime) -> Result<(),
     console.fail_call(1)?;
     let job = job(&rt, alloc, PUTS_A, 1, 10_000, RunReport::Summary)?;
     let ended = ran(alloc, job, Order::Round, &mut console, &mut report);
-    assert!(rt; has_a_broken_sink(&ended));
-    assert!(rt; console.bytes().is_empty() && report.bytes().is_empty());
+    is_so(&rt, has_a_broken_sink(&ended));
+    is_so(&rt, console.bytes().is_empty() && report.bytes().is_empty());
     Ok(())
 }
 
@@ -294,19 +300,19 @@ fn where_the_report_fails_the_console_has_all(rt: HostRuntime) -> Result<(), Fai
     report.fail_call(1)?;
     let job = job(&rt, alloc, PUTS_A, 1, 10_000, RunReport::Summary)?;
     let ended = ran(alloc, job, Order::Round, &mut console, &mut report);
-    assert!(rt; has_a_broken_sink(&ended));
-    assert_eq!(rt; console.bytes(), b"A".as_slice());
-    assert!(rt; report.bytes().is_empty());
+    is_so(&rt, has_a_broken_sink(&ended));
+    is_so(&rt, console.bytes() == b"A".as_slice());
+    is_so(&rt, report.bytes().is_empty());
     Ok(())
 }
 
 #[test]
 fn a_scheduler_and_workers_draw_from_generators_of_their_own(rt: HostRuntime) -> Result<(), Fail> {
     let mut scheduler = Scheduler::new(Order::Drawn, 1, 16);
-    assert!(rt; scheduler.next() == 12);
-    assert!(rt; scheduler.next() == 6);
+    is_so(&rt, scheduler.next() == 12);
+    is_so(&rt, scheduler.next() == 6);
     let mut generators = generators(rt.alloc(), 1, 4)?;
-    assert!(rt; draw(&mut generators, 2) == 1_170_342_731);
-    assert!(rt; draw(&mut generators, 3) == 668_795_775);
+    is_so(&rt, draw(&mut generators, 2) == 1_170_342_731);
+    is_so(&rt, draw(&mut generators, 3) == 668_795_775);
     Ok(())
 }

@@ -1,6 +1,7 @@
 //! What runs leave in every schedule, workers and console side by side, and probes.
 ghost use Rattle.std.specs.Prelude.{◌*◌, ◌<◌, [], IfSome};
 
+use super::is_so;
 use elf_load::load;
 use node_threads::{Finish, SharedMachine, run_nodes};
 use sn_base::{Answer, Config, Event, NodeId, Rules, SwitchId};
@@ -191,14 +192,14 @@ fn run_probed<T: Threads + Wait + Sync + Abort>(
 #[test]
 fn a_run_ends_where_its_core_traps(rt: HostRuntime) -> Result<(), Fail> {
     let end = run_freely(&rt, rt.alloc(), &TRAPPED)?;
-    assert!(rt; end.finish == Finish::Over && end.committed == 1);
+    is_so(&rt, end.finish == Finish::Over && end.committed == 1);
     Ok(())
 }
 
 #[test]
 fn a_run_ends_where_its_budget_is_spent(rt: HostRuntime) -> Result<(), Fail> {
     let end = run_freely(&rt, rt.alloc(), &SPENT)?;
-    assert!(rt; end.finish == Finish::Budget && end.events == 50);
+    is_so(&rt, end.finish == Finish::Budget && end.events == 50);
     Ok(())
 }
 
@@ -213,7 +214,10 @@ fn is_cut_off(finish: Finish) -> bool {
 #[test]
 fn a_run_ends_where_a_dead_switch_cuts_its_nodes_off(rt: HostRuntime) -> Result<(), Fail> {
     let end = run_freely(&rt, rt.alloc(), &CUT_OFF)?;
-    assert!(rt; is_cut_off(end.finish) && end.events == 9 && end.committed == 0);
+    is_so(
+        &rt,
+        is_cut_off(end.finish) && end.events == 9 && end.committed == 0,
+    );
     Ok(())
 }
 
@@ -240,8 +244,11 @@ fn run_tallied<T: Threads + Wait + Sync + Abort>(
 #[test]
 fn a_probe_is_told_all_events(rt: HostRuntime) -> Result<(), Fail> {
     let (end, recoveries) = run_tallied(&rt, rt.alloc())?;
-    assert!(rt; end.finish == Finish::Budget && end.events == 1000);
-    assert!(rt; end.point == 0 && end.committed == 0 && recoveries == Some(500));
+    is_so(&rt, end.finish == Finish::Budget && end.events == 1000);
+    is_so(
+        &rt,
+        end.point == 0 && end.committed == 0 && recoveries == Some(500),
+    );
     Ok(())
 }
 
@@ -292,8 +299,11 @@ fn the_workers_are_in_flight_at_once(rt: HostRuntime) -> Result<(), Fail> {
     for count in [0, 100] {
         let (end, missed) = run_met(&rt, rt.alloc(), count)?;
         assert!(rt; missed == 0, "a worker waited in vain");
-        assert!(rt; end.finish == Finish::Over);
-        assert!(rt; end.committed == 20 && end.released == 0 && end.word == 4);
+        is_so(&rt, end.finish == Finish::Over);
+        is_so(
+            &rt,
+            end.committed == 20 && end.released == 0 && end.word == 4,
+        );
     }
     Ok(())
 }
@@ -351,8 +361,8 @@ fn run_late<T: Threads + Wait + Sync + Abort>(
 fn the_console_is_written_beside_the_run(rt: HostRuntime) -> Result<(), Fail> {
     let (end, put, missed) = run_late(&rt, rt.alloc())?;
     assert!(rt; missed == 0, "a turn waited in vain");
-    assert!(rt; end.finish == Finish::Budget);
-    assert!(rt; end.released > 38 && put == end.released as u64);
+    is_so(&rt, end.finish == Finish::Budget);
+    is_so(&rt, end.released > 38 && put == end.released as u64);
     Ok(())
 }
 
@@ -370,7 +380,7 @@ fn run_failing<T: Threads + Wait + Sync + Abort>(
 #[test]
 fn a_console_that_fails_stops_the_workers(rt: HostRuntime) -> Result<(), Fail> {
     let (finish, put) = run_failing(&rt, rt.alloc())?;
-    assert!(rt; finish == Finish::Stopped && put == 0);
+    is_so(&rt, finish == Finish::Stopped && put == 0);
     Ok(())
 }
 
@@ -454,7 +464,7 @@ const TOLD: &[(u64, u64)] = &[(0, 0), (1, 400), (100, 40_000)];
 fn each_probe_is_told_each_event_and_dropped_once(rt: HostRuntime) -> Result<(), Fail> {
     for (count, wanted) in TOLD {
         let (told, before, after) = run_witnessed(&rt, rt.alloc(), *count)?;
-        assert!(rt; told == *wanted && before == 0 && after == *count);
+        is_so(&rt, told == *wanted && before == 0 && after == *count);
     }
     Ok(())
 }

@@ -1,4 +1,5 @@
 //! Lines of texts in memory and of readers, with each kind of end, too long ones and failures.
+use super::is_so;
 use line_source::{LINE_MOST, LineRoom, Lines, MemLines, ReadFailed, ReaderLines, Taken};
 use std::alloc::Global;
 use std::io::{self, BufReader};
@@ -46,11 +47,11 @@ fn a_text_in_memory_gives_each_line_and_an_empty_one_after_its_last_end(
 ) -> Result<(), Fail> {
     let mut room = LineRoom::new(rt.alloc())?;
     let mut lines = MemLines::new(b"step 0\r\n\nhop\x001\r\n");
-    assert!(rt; gives(&mut lines, &mut room, b"step 0"));
-    assert!(rt; gives(&mut lines, &mut room, b""));
-    assert!(rt; gives(&mut lines, &mut room, b"hop\x001"));
-    assert!(rt; gives(&mut lines, &mut room, b""));
-    assert!(rt; comes_to(&mut lines, &mut room, Ok(Taken::End)));
+    is_so(&rt, gives(&mut lines, &mut room, b"step 0"));
+    is_so(&rt, gives(&mut lines, &mut room, b""));
+    is_so(&rt, gives(&mut lines, &mut room, b"hop\x001"));
+    is_so(&rt, gives(&mut lines, &mut room, b""));
+    is_so(&rt, comes_to(&mut lines, &mut room, Ok(Taken::End)));
     Ok(())
 }
 
@@ -59,9 +60,9 @@ fn a_call_that_is_named_fails_and_takes_no_line(rt: HostRuntime) -> Result<(), F
     let mut room = LineRoom::new(rt.alloc())?;
     let mut lines = MemLines::new(b"a\nb");
     lines.fail_call(2);
-    assert!(rt; gives(&mut lines, &mut room, b"a"));
-    assert!(rt; comes_to(&mut lines, &mut room, Err(ReadFailed)));
-    assert!(rt; gives(&mut lines, &mut room, b"b"));
+    is_so(&rt, gives(&mut lines, &mut room, b"a"));
+    is_so(&rt, comes_to(&mut lines, &mut room, Err(ReadFailed)));
+    is_so(&rt, gives(&mut lines, &mut room, b"b"));
     Ok(())
 }
 
@@ -99,8 +100,8 @@ fn a_reader_that_fails_within_a_line_gives_nothing_of_it(rt: HostRuntime) -> Res
     let end = Err(io::ErrorKind::Other);
     let reader = BufReader::with_capacity(rt.alloc(), 8, Slow { left, end })?;
     let mut lines = ReaderLines::new(reader);
-    assert!(rt; gives(&mut lines, &mut room, b"b"));
-    assert!(rt; comes_to(&mut lines, &mut room, Err(ReadFailed)));
+    is_so(&rt, gives(&mut lines, &mut room, b"b"));
+    is_so(&rt, comes_to(&mut lines, &mut room, Err(ReadFailed)));
     Ok(())
 }
 

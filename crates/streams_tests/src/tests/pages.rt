@@ -1,4 +1,5 @@
 //! Lines of words, the page that they ask for, and what a page puts.
+use super::is_so;
 use help_pages::{Page, page_of, show};
 use sn_io::{Failed, MemSink};
 use std::alloc::{AllocError, Global};
@@ -60,7 +61,7 @@ fn a_call_for_a_page_is_one_word_alone_or_after_a_command(rt: HostRuntime) -> Re
 
 #[test]
 fn without_even_a_name_it_is_the_overview(rt: HostRuntime) {
-    assert!(rt; page_of(&[]) == Some(Page::Overview));
+    is_so(&rt, page_of(&[]) == Some(Page::Overview));
 }
 
 /// Whether the page of the version comes to this on a console with so much room.

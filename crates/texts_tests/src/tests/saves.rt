@@ -1,4 +1,5 @@
 //! Each row changes the save file of a short program in one place, or in two of which the first counts.
+use super::is_so;
 use elf_load::load;
 use save_text::{
     SaveCause, SaveFault, read_save, write_config, write_end, write_given, write_head, write_marks,
@@ -189,9 +190,10 @@ fn write_all(rt: &impl Abort, line: &mut Line) {
 fn a_save_file_is_written_line_by_line(rt: HostRuntime) -> Result<(), Fail> {
     let mut line = Line::new(rt.alloc())?;
     write_all(&rt, &mut line);
-    assert_eq!(rt;
-        line.bytes(),
-        b"safetynet-save 1\nconfig 2 16 4 256\nmarks 1 8 18\nowner 64 1\ngiven 1 7f\nend\n".as_slice()
+    is_so(
+        &rt,
+        line.bytes()
+            == b"safetynet-save 1\nconfig 2 16 4 256\nmarks 1 8 18\nowner 64 1\ngiven 1 7f\nend\n".as_slice(),
     );
     Ok(())
 }

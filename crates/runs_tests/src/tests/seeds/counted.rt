@@ -1,6 +1,7 @@
 //! A run with its statistics.
 ghost use Rattle.node_run.specs.Shown.{MayBegin};
 
+use super::super::is_so;
 use super::{Sinks, are_same, has_exited, one, put, ran_alone, ran_counted, sinks_for};
 use seed_runs::{Order, Run, RunFault, run_counted, run_counted_by_threads};
 use sn_base::Memory;
@@ -21,9 +22,12 @@ fn statistics_stand_behind_the_summary(rt: HostRuntime) -> Result<(), Fail> {
     let alloc = rt.alloc();
     let mut summary = sinks_for(alloc)?;
     let mut counted = sinks_for(alloc)?;
-    assert!(rt; ran_alone(&rt, alloc, 7, &mut summary)?);
-    assert!(rt; ran_counted(&rt, alloc, 7, &mut counted)?);
-    assert!(rt; put(&mut summary, b"stat events ".as_slice()) && begins_as(&counted, &summary));
+    is_so(&rt, ran_alone(&rt, alloc, 7, &mut summary)?);
+    is_so(&rt, ran_counted(&rt, alloc, 7, &mut counted)?);
+    is_so(
+        &rt,
+        put(&mut summary, b"stat events ".as_slice()) && begins_as(&counted, &summary),
+    );
     Ok(())
 }
 
@@ -64,9 +68,9 @@ fn a_run_by_threads_is_counted_as_in_an_order(rt: HostRuntime) -> Result<(), Fai
     let alloc = rt.alloc();
     let mut ordered = sinks_for(alloc)?;
     let mut threads = sinks_for(alloc)?;
-    assert!(rt; ran_counted(&rt, alloc, 7, &mut ordered)?);
-    assert!(rt; ran_by_threads(&rt, alloc, 7, &mut threads)?);
-    assert!(rt; are_same(&threads, &ordered));
+    is_so(&rt, ran_counted(&rt, alloc, 7, &mut ordered)?);
+    is_so(&rt, ran_by_threads(&rt, alloc, 7, &mut threads)?);
+    is_so(&rt, are_same(&threads, &ordered));
     Ok(())
 }
 
@@ -99,8 +103,8 @@ fn a_report_that_fails_in_the_statistics_has_the_summary(rt: HostRuntime) -> Res
     let mut summary = sinks_for(alloc)?;
     let mut broken = sinks_for(alloc)?;
     broken.report.fail_call(2)?;
-    assert!(rt; ran_alone(&rt, alloc, 7, &mut summary)?);
-    assert!(rt; breaks(&rt, alloc, 7, &mut broken)?);
-    assert!(rt; are_same(&broken, &summary));
+    is_so(&rt, ran_alone(&rt, alloc, 7, &mut summary)?);
+    is_so(&rt, breaks(&rt, alloc, 7, &mut broken)?);
+    is_so(&rt, are_same(&broken, &summary));
     Ok(())
 }

@@ -2,6 +2,7 @@
 ghost use Rattle.std.specs.Prelude.{IfOk};
 ghost use Rattle.seed_runs.specs.Shown.{MayBegin};
 
+use super::super::is_so;
 use super::{PUTS_A, RULES, SIZES, Sinks, are_same, put, ran_alone, ran_counted, sinks_for};
 use elf_load::load;
 use option_values::MOST_SEEDS;
@@ -133,13 +134,13 @@ fn a_range_puts_a_block_a_seed_in_order(rt: HostRuntime) -> Result<(), Fail> {
     let alloc = rt.alloc();
     let mut all = sinks_for(alloc)?;
     let mut each = sinks_for(alloc)?;
-    assert!(rt; is_put(&rt, alloc, &NINE, &mut all)?);
+    is_so(&rt, is_put(&rt, alloc, &NINE, &mut all)?);
     let mut seed = 1u64;
     'seeds: for head in HEADS {
-        assert!(rt; put_block(&rt, alloc, seed, head, &mut each)?);
+        is_so(&rt, put_block(&rt, alloc, seed, head, &mut each)?);
         seed = seed.wrapping_add(1);
     }
-    assert!(rt; are_same(&all, &each));
+    is_so(&rt, are_same(&all, &each));
     Ok(())
 }
 
@@ -148,11 +149,11 @@ fn a_block_of_a_seed_has_its_statistics(rt: HostRuntime) -> Result<(), Fail> {
     let alloc = rt.alloc();
     let mut block = sinks_for(alloc)?;
     let mut alone = sinks_for(alloc)?;
-    assert!(rt; is_put(&rt, alloc, &COUNTED, &mut block)?);
-    assert!(rt; put(&mut alone, b"seed 7\n".as_slice()));
-    assert!(rt; ran_counted(&rt, alloc, 7, &mut alone)?);
-    assert!(rt; put(&mut alone, b"end done\n".as_slice()));
-    assert!(rt; are_same(&block, &alone));
+    is_so(&rt, is_put(&rt, alloc, &COUNTED, &mut block)?);
+    is_so(&rt, put(&mut alone, b"seed 7\n".as_slice()));
+    is_so(&rt, ran_counted(&rt, alloc, 7, &mut alone)?);
+    is_so(&rt, put(&mut alone, b"end done\n".as_slice()));
+    is_so(&rt, are_same(&block, &alone));
     Ok(())
 }
 
@@ -172,20 +173,24 @@ fn last_line_is<T: Threads + Sync + Abort>(
 
 #[test]
 fn a_block_says_that_its_core_trapped(rt: HostRuntime) -> Result<(), Fail> {
-    assert!(rt;
+    is_so(
+        &rt,
         last_line_is(
             &rt,
             rt.alloc(),
             &TRAPPED,
-            b"\nend trapped 0 illegal\n".as_slice()
-        )?
+            b"\nend trapped 0 illegal\n".as_slice(),
+        )?,
     );
     Ok(())
 }
 
 #[test]
 fn a_block_says_that_its_budget_is_spent(rt: HostRuntime) -> Result<(), Fail> {
-    assert!(rt; last_line_is(&rt, rt.alloc(), &SPENT, b"\nend budget\n".as_slice())?);
+    is_so(
+        &rt,
+        last_line_is(&rt, rt.alloc(), &SPENT, b"\nend budget\n".as_slice())?,
+    );
     Ok(())
 }
 
@@ -196,9 +201,12 @@ fn a_report_that_fails_ends_the_range(rt: HostRuntime) -> Result<(), Fail> {
     let mut broken = sinks_for(alloc)?;
     let mut first = sinks_for(alloc)?;
     broken.report.fail_call(4)?;
-    assert!(rt; !is_put(&rt, alloc, &NINE, &mut broken)?);
-    assert!(rt; put_block(&rt, alloc, 1, b"seed 1\n".as_slice(), &mut first)?);
-    assert!(rt; are_same(&broken, &first));
+    is_so(&rt, !is_put(&rt, alloc, &NINE, &mut broken)?);
+    is_so(
+        &rt,
+        put_block(&rt, alloc, 1, b"seed 1\n".as_slice(), &mut first)?,
+    );
+    is_so(&rt, are_same(&broken, &first));
     Ok(())
 }
 
@@ -207,13 +215,14 @@ fn a_console_that_fails_ends_the_range_in_its_block(rt: HostRuntime) -> Result<(
     let alloc = rt.alloc();
     let mut broken = sinks_for(alloc)?;
     broken.console.fail_call(6)?;
-    assert!(rt; !is_put(&rt, alloc, &NINE, &mut broken)?);
-    assert!(rt;
+    is_so(&rt, !is_put(&rt, alloc, &NINE, &mut broken)?);
+    is_so(
+        &rt,
         ends_with(
             &broken,
             b"AAAAA".as_slice(),
-            b"\nend done\nseed 6\n".as_slice()
-        )
+            b"\nend done\nseed 6\n".as_slice(),
+        ),
     );
     Ok(())
 }
