@@ -1,7 +1,7 @@
 #!/usr/bin/env python3
 """Times what a watcher of a monitored run costs: its looks, and the turns beside which it looks.
 
-    bench/looks.py [TURNS]
+    bench/looks.py [TURNS [PAIRS]]
 
 One small program over `sn_monitor` is made in a folder of its own, over copies of the crates that it stands on, where it is proved and built
 by `rt run`, as the repository is; libraries that were built here already are taken over. It makes TURNS (1,000,000; at least 100,000, so that
@@ -9,8 +9,9 @@ each machine comes to edges) turns on the calling thread while watchers look, ea
 itself, on four nodes all cores add to one word for ever; the sizes and the rules are `run`'s defaults. Four things are told:
 
 - the nanoseconds of a look, mean over all looks of all watchers, with 1 watcher and with 3 beside the turns;
-- how long the turns take with a watcher beside them, over turns without one, three times each, alternating: by a watcher that looks without
-  a pause, and by one that yields after each look, as the command `monitor` does;
+- how long the turns take with a watcher beside them, over turns without one, in PAIRS pairs of runs (3; 1 to 100), of which the one without is the
+  first: by a watcher that looks without a pause, and by one that yields after each look, as the command `monitor` does. Told are the least of the
+  times over each other, each time, and the medians; docs/MEASURES.md has the medians of 15 pairs, which `bench/looks.py 1000000 15` measures;
 - the peak memory of a run whose watcher looks 10,000 times, and of one whose watcher looks 10,000,000 times;
 - that a run whose watcher never looks, and one without a validation, end as they should. The bench stops at any run that doesn't.
 
@@ -27,6 +28,7 @@ import sys
 import tempfile
 from dataclasses import dataclass
 from pathlib import Path
+from statistics import median
 
 from bodies import ROOT, below, needs_of
 from looks_program import PROGRAM
@@ -35,6 +37,8 @@ TURNS = 1_000_000
 LEAST_TURNS = 100_000
 MOST_TURNS = 2_000_000
 TIMES = 3
+PAIRS = 3
+MOST_PAIRS = 100
 INTERVAL = 100
 NO_EDGE = 4_000_000_000
 UNTIL_THE_END = 4_294_967_295
@@ -182,20 +186,22 @@ def ratio(one: list[int], other: list[int]) -> str:
     return f"{min(one) / min(other):.3f}"
 
 
-def time_turns(program: Path, turns: int) -> None:
-    """The turns with a watcher beside them, over turns without."""
+def time_turns(program: Path, turns: int, pairs: int) -> None:
+    """The turns with a watcher beside them, over turns without, in so many pairs of runs."""
     for nodes in (1, 4):
         for yields in (False, True):
             alone, beside = [], []
-            for _ in range(TIMES):
+            for _ in range(pairs):
                 alone.append(run(program, Asked(nodes, turns, looks=0)))
                 beside.append(run(program, Asked(nodes, turns, yields=yields)))
             processor = ratio([it.processor for it in beside], [it.processor for it in alone])
             clock = ratio([it.clock for it in beside], [it.clock for it in alone])
             each = [", ".join(f"{it.processor / 1e6:.0f}" for it in tried) for tried in (alone, beside)]
+            middles = [median(it.processor for it in tried) for tried in (alone, beside)]
             rates = [turns / min(it.processor for it in tried) * 1e9 for tried in (alone, beside)]
             print(f"turns   {nodes} nodes, a watcher that {'yields' if yields else 'never pauses'}: {processor} times as long, {clock} by the clock;"
-                  f" alone {each[0]} ms, beside {each[1]} ms; {rates[0]:.0f} and {rates[1]:.0f} turns a second")
+                  f" alone {each[0]} ms, beside {each[1]} ms; {rates[0]:.0f} and {rates[1]:.0f} turns a second;"
+                  f" medians {middles[0] / 1e6:.0f} and {middles[1] / 1e6:.0f} ms, {middles[1] / middles[0]:.2f} times as long")
 
 
 def weigh_looks(program: Path, turns: int) -> None:
@@ -215,15 +221,21 @@ def try_ends(program: Path, turns: int) -> None:
 
 
 def main() -> None:
-    if len(sys.argv) > 2:
+    asked = sys.argv[1:]
+    if len(asked) > 2 or not all(it.isdecimal() for it in asked):
         sys.exit(__doc__)
-    turns = int(sys.argv[1]) if len(sys.argv) == 2 else TURNS
+    turns = int(asked[0]) if asked else TURNS
+    pairs = int(asked[1]) if len(asked) == 2 else PAIRS
     if not LEAST_TURNS <= turns <= MOST_TURNS:
         sys.exit(f"TURNS is {LEAST_TURNS} to {MOST_TURNS}")
+    if not 1 <= pairs <= MOST_PAIRS:
+        sys.exit(f"PAIRS is 1 to {MOST_PAIRS}")
     with tempfile.TemporaryDirectory() as folder:
         program = build(Path(folder))
-        for measure in (try_ends, time_looks, time_turns, weigh_looks):
-            measure(program, turns)
+        try_ends(program, turns)
+        time_looks(program, turns)
+        time_turns(program, turns, pairs)
+        weigh_looks(program, turns)
 
 
 if __name__ == "__main__":
