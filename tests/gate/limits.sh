@@ -102,6 +102,32 @@ refused 12 'save outofrange' resume "$work/spin" "$work/save" /dev/null
 ends 6 '# safetynet: budget' monitor --nodes 1 "$work/spin"
 has 1 '^events 1000000$'
 
+# The watcher looks while there are turns: it sees a cut before the last one too, which is shown only until the next one is published. In these
+# turns thousands are, but when the watcher's thread has a processor is the system's. So a run in which it saw the last cut alone is done again, ten
+# runs in all; if none of them has another, the case has failed, as it has at once where what was seen doesn't grow up to the summary's
+# point. Each run ends by its budget, whether the watcher looks or not.
+looks_beside() { # words
+  local run status
+  for ((run = 1; run <= 10; run++)); do
+    ./safetynet "$@" >"$work/console" 2>"$work/report"
+    status=$?
+    if [ "$status" -ne 6 ] || ! awk '
+      $1 == "seen" { if ($2 <= point || $3 < committed) exit 1; point = $2; committed = $3 }
+      $1 == "point" && $2 != point || $1 == "committed" && $2 != committed { exit 1 }' "$work/report"; then
+      echo "$*: status $status, or what was seen doesn't grow up to the summary's point" >&2
+      failed=$((failed + 1))
+      return
+    fi
+    if [ "$(grep -c '^seen ' "$work/report")" -gt 1 ]; then
+      passed=$((passed + 1))
+      return
+    fi
+  done
+  echo "$*: in each of ten runs the watcher saw the last cut alone" >&2
+  failed=$((failed + 1))
+}
+looks_beside monitor --nodes 1 "$work/spin"
+
 # Files at their limits, and the words of memory.
 bytes 33554432 '#' >"$work/script"
 ends 0 'probe 0 9 0' replay --nodes 1 "$first" "$work/script"
