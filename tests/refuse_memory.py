@@ -1,15 +1,15 @@
 #!/usr/bin/env python3
 """Refuses each call for memory of a run in turn, and looks at what the program makes of it.
 
-    tests/refuse_memory.py PROGRAM [MOST]
+    tests/refuse_memory.py PROGRAM [MOST] [COMMAND..]
 
-PROGRAM is the built program. For each command on its own small input the run is done once with all memory, which counts its calls
-of the allocator, and then once for each of these calls with that one refused, and once with that one and all after it refused. It
-must end with the status of want of memory and the one line that says so, with nothing on standard output; or it must be as with
-all memory, byte for byte. A run of the command `run` on several nodes isn't the same bytes twice, so its status must then be one in
-which a run ends, and its journal, replayed, must give its console and its summary; and of what was seen of a run that is watched the last
-line alone is the same each time. MOST is the greatest number of calls that are refused one by one, evenly spread; without it all are.
-The library that refuses is built by cc from tests/refuse_memory/refuse.c.
+PROGRAM is the built program. For each command, or for those that are named, on its own small input the run is done once with all
+memory, which counts its calls of the allocator, and then once for each of these calls with that one refused, and once with that one
+and all after it refused. It must end with the status of want of memory and the one line that says so, with nothing on standard
+output; or it must be as with all memory, byte for byte. A run of the command `run` on several nodes isn't the same bytes twice, so
+its status must then be one in which a run ends, and its journal, replayed, must give its console and its summary; and of what was
+seen of a run that is watched the last line alone is the same each time. MOST is the greatest number of calls that are refused one
+by one, evenly spread; without it, or with 0, all are. The library that refuses is built by cc from tests/refuse_memory/refuse.c.
 """
 import os
 import struct
@@ -140,7 +140,7 @@ def refuse(program, row, folder, library, most):
     for file, content in files.items():
         Path(folder, file).write_bytes(content)
     ample, made = run(program, words, folder, library)
-    step = 1 if most is None else max(1, made // most)
+    step = max(1, made // most) if most else 1
     wants = wholes = wrong = 0
     for call, all_after in product(range(1, made + 1, step), (False, True)):
         found, _ = run(program, words, folder, library, call, all_after)
@@ -160,10 +160,13 @@ def main():
         print(__doc__)
         return 2
     program = str(Path(sys.argv[1]).resolve())
-    most = int(sys.argv[2]) if len(sys.argv) > 2 else None
+    most = int(sys.argv[2]) if len(sys.argv) > 2 else 0
+    rows = [row for row in RUNS if row[1][0] in sys.argv[3:] or len(sys.argv) <= 3]
+    if not rows:
+        sys.exit(f"no run has the command {' or '.join(sys.argv[3:])}")
     with tempfile.TemporaryDirectory() as folder:
         library = built_library(folder)
-        wrong = sum(refuse(program, row, folder, library, most) for row in RUNS)
+        wrong = sum(refuse(program, row, folder, library, most) for row in rows)
     return 1 if wrong else 0
 
 
