@@ -3,7 +3,7 @@ ghost use Rattle.std.specs.Prelude.{◌≡◌, ◌<◌, ◌≤◌, IfOk};
 ghost use Rattle.sn_model.specs.Machine.{start_of};
 
 use elf_load::load;
-use sn_base::{Config, Event, NodeId, Rules};
+use sn_base::{Config, Event, Memory, NodeId, Rules};
 use sn_driver::{Driver, Turn};
 use sn_machine::Machine;
 use sn_monitor::{Monitored, Published, Snap, Watcher};
@@ -70,7 +70,7 @@ fn machine(rt: &impl Abort, alloc: Global, run: &Run) -> Result<Machine, Fail>
     assert!(rt; config.fits());
     let image = load(alloc, run.program.as_bytes())?;
     let mut machine = Machine::new(alloc, image, config)?;
-    assert!(rt; machine.reserve(1000).is_ok());
+    machine.reserve(1000)?;
     Ok(machine)
 }
 
@@ -88,10 +88,10 @@ fn begun<T: Wait + Abort>(rt: &T, alloc: Global, run: &Run) -> Result<(Monitored
         kill: None,
     };
     let driver = Driver::new(rules, run.nodes);
-    let Ok(made) = Monitored::new(rt, alloc, machine, driver, run.watch) else {
-        panic!(rt; "there is memory")
-    };
-    Ok(made)
+    match Monitored::new(rt, alloc, machine, driver, run.watch) {
+        Ok(made) => Ok(made),
+        Err(_) => Err(Fail::from(Memory)),
+    }
 }
 
 fn end(rt: &impl Wait, monitored: Monitored) {
@@ -126,7 +126,11 @@ fn step<T: Wait + Abort>(
 }
 
 /// Turns of the workers, round and round, up to one that publishes. Whether one does before the run's end.
-fn publish_next<T: Wait + Abort>(rt: &T, monitored: &mut Monitored, nodes: u32) -> bool
+fn publish_next<T: Wait + Abort>(
+    rt: &T,
+    monitored: &mut Monitored,
+    nodes: u32,
+) -> Result<bool, Memory>
     requires some { 1 ≤ nodes }
     requires nodes { monitored.old.machine.config.nodes ≡ nodes }
     ensures { (monitored.new.machine.config ≡ monitored.old.machine.config) × (monitored.new.board ≡ monitored.old.board) }
@@ -134,11 +138,13 @@ fn publish_next<T: Wait + Abort>(rt: &T, monitored: &mut Monitored, nodes: u32) 
     'turns: for turn in 0..500u32 {
         match step(rt, monitored, turn % nodes, turn) {
             Some(Published::Nothing) => {}
-            published => return published == Some(Published::New),
+            Some(Published::New) => return Ok(true),
+            Some(Published::Memory) => return Err(Memory),
+            None => return Ok(false),
         }
     }
     assert!(rt; false, "nothing is validated");
-    false
+    Ok(false)
 }
 
 /// What a snapshot shows: its point, how many records are committed, the first core's place, and the watched word.
@@ -176,17 +182,24 @@ fn learn(monitored: &mut Monitored, watcher: &mut Watcher) -> Sight
     sight
 }
 
-/// The last cut of a run, as its watcher sees it.
+/// The last cut of a run, as its watcher sees it. One that was published and isn't shown lacked memory for that.
 fn last_cut<T: Wait + Abort>(rt: &T, alloc: Global, run: &Run) -> Result<Sight, Fail> {
     let (mut monitored, mut watcher) = begun(rt, alloc, run)?;
     assert!(rt; run.nodes > 0);
+    let mut published: Result<bool, Memory> = Ok(true);
     'points: for _ in 0..100 {
-        if !publish_next(rt, &mut monitored, u32::from(run.nodes)) {
+        published = publish_next(rt, &mut monitored, u32::from(run.nodes));
+        if published != Ok(true) {
             break;
         }
     }
+    let told = monitored.receipt().last().point();
     let sight = look(&mut watcher);
     end(rt, monitored);
+    published?;
+    if sight.point < told {
+        return Err(Fail::from(Memory));
+    }
     Ok(sight)
 }
 
@@ -209,13 +222,15 @@ fn the_watched_word_has_what_all_cores_added(rt: HostRuntime) -> Result<(), Fail
 fn points<T: Wait + Abort>(rt: &T, alloc: Global) -> Result<[u32; 5], Fail> {
     let (mut monitored, mut watcher) = begun(rt, alloc, &GOES_ON)?;
     let first = look(&mut watcher).point;
-    publish_next(rt, &mut monitored, 1);
+    let one = publish_next(rt, &mut monitored, 1);
     let told = learn(&mut monitored, &mut watcher).point;
     let seen = look(&mut watcher).point;
-    publish_next(rt, &mut monitored, 1);
+    let other = publish_next(rt, &mut monitored, 1);
     let later = look(&mut watcher).point;
     end(rt, monitored);
     let last = look(&mut watcher).point;
+    one?;
+    other?;
     Ok([first, told, seen, later, last])
 }
 
@@ -231,19 +246,21 @@ fn a_watcher_that_looks_only_after_the_end_has_its_receipts_snapshot(
     rt: HostRuntime,
 ) -> Result<(), Fail> {
     let (mut monitored, mut watcher) = begun(&rt, rt.alloc(), &GOES_ON)?;
-    publish_next(&rt, &mut monitored, 1);
+    let one = publish_next(&rt, &mut monitored, 1);
     let told = learn(&mut monitored, &mut watcher);
-    publish_next(&rt, &mut monitored, 1);
+    let other = publish_next(&rt, &mut monitored, 1);
     end(&rt, monitored);
+    one?;
+    other?;
     let seen = look(&mut watcher);
     assert!(rt; seen == told && seen.point == 1);
     Ok(())
 }
 
-/// Looks until a point is seen, for at most 50,000,000 looks. Whether it was.
-fn look_for(watcher: &mut Watcher, point: u32) -> bool {
+/// Looks until a point is seen or the turns are given up, for at most 50,000,000 looks. Whether one of the two came.
+fn look_for(watcher: &mut Watcher, point: u32, given_up: &AtomicBool) -> bool {
     for _ in 0..50_000_000u32 {
-        if watcher.look().point() >= point {
+        if watcher.look().point() >= point || given_up.load(Ordering::SeqCst) {
             return true;
         }
         thread::yield_now();
@@ -251,11 +268,17 @@ fn look_for(watcher: &mut Watcher, point: u32) -> bool {
     false
 }
 
-/// Looks for the first point, says that it was seen, and looks for the second.
-fn watch(rt: &impl Abort, watcher: &mut Watcher, seen: &AtomicBool) {
-    assert!(rt; look_for(watcher, 1), "the first point is never seen");
+/// Looks for the second point, says that it was seen, and looks for the third.
+fn watch(rt: &impl Abort, watcher: &mut Watcher, seen: &AtomicBool, given_up: &AtomicBool) {
+    assert!(rt;
+        look_for(watcher, 2, given_up),
+        "the second point is never seen"
+    );
     seen.store(true, Ordering::SeqCst);
-    assert!(rt; look_for(watcher, 2), "the second point is never seen");
+    assert!(rt;
+        look_for(watcher, 3, given_up),
+        "the third point is never seen"
+    );
 }
 
 /// Waits for the watcher, as long. Whether it said so.
@@ -269,38 +292,53 @@ fn wait_for(seen: &AtomicBool) -> bool {
     false
 }
 
-/// Publishes a point, and one more once the first was seen.
-fn publish_both<T: Wait + Abort>(rt: &T, monitored: &mut Monitored, seen: &AtomicBool)
+/// Publishes two points, and one more once the second was seen. Where memory is lacking for showing the first alone, it is shown with
+/// the second.
+fn publish_all<T: Wait + Abort>(
+    rt: &T,
+    monitored: &mut Monitored,
+    seen: &AtomicBool,
+) -> Result<(), Memory>
     requires { monitored.old.machine.config.nodes ≡ 1 }
 {
-    publish_next(rt, monitored, 1);
+    publish_next(rt, monitored, 1)?;
+    publish_next(rt, monitored, 1)?;
     assert!(rt; wait_for(seen), "the turns waited in vain");
-    publish_next(rt, monitored, 1);
+    publish_next(rt, monitored, 1)?;
+    Ok(())
 }
 
-/// The watcher beside the turns.
+/// The watcher beside the turns, which are given up where memory is lacking.
 fn run_beside<T: Threads + Wait + Sync + Abort>(
     rt: &T,
     monitored: &mut Monitored,
     watcher: &mut Watcher,
-)
+) -> Result<(), Memory>
     requires { monitored.old.machine.config.nodes ≡ 1 }
 {
     let seen = AtomicBool::new(false);
     let seen = &seen;
-    join_mut(
+    let given_up = AtomicBool::new(false);
+    let given_up = &given_up;
+    let (_, published) = join_mut(
         rt,
-        &mut || watch(rt, watcher, seen),
+        &mut || watch(rt, watcher, seen, given_up),
         &mut ||
             requires { monitored.now.machine.config.nodes ≡ 1 }
-        { publish_both(rt, monitored, seen) },
+        {
+            let published = publish_all(rt, monitored, seen);
+            given_up.store(published.is_err(), Ordering::SeqCst);
+            published
+        },
     );
+    published
 }
 
 #[test]
 fn a_watcher_looks_beside_the_turns(rt: HostRuntime) -> Result<(), Fail> {
     let (mut monitored, mut watcher) = begun(&rt, rt.alloc(), &GOES_ON)?;
-    run_beside(&rt, &mut monitored, &mut watcher);
+    let published = run_beside(&rt, &mut monitored, &mut watcher);
     end(&rt, monitored);
+    published?;
     Ok(())
 }
