@@ -56,7 +56,7 @@ writes:
                    core's reservation, which access P was the last to end).
                    P is 0 if it was so from the start
 
-The accesses of every run of every program are legal: that is proved.
+The accesses of every execution of every program are legal: that is proved.
 
 exit status: 0 legal, 9 refused; 1 usage, 2 store, 4 script (ACCESSES is
              refused), 5 sink, 7 memory (help statuses)

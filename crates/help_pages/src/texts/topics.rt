@@ -99,7 +99,7 @@ standard error names it (`# safetynet: WORD`). The line above it says why
   14  input          in a drive standard input can't be read to its end
 
 Where the words or a file are refused (1 to 4, 12, 13), or memory is lacking (7),
-nothing was written before these two lines; but `replay --states` and
-`run --seeds` take memory as they go on, so some first events may have been
-told, or some first seeds done.
+nothing was written before these two lines; but `replay --states`,
+`run --seeds` and `drive` take memory as they go on, so some first events may
+have been told, some first seeds done, or some first lines answered.
 ";
