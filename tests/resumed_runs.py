@@ -88,7 +88,8 @@ def places_of(choose: random.Random, events: Sequence[str]) -> List[int]:
 
 def pieces_of(events: Sequence[str], places: Sequence[int]) -> List[Piece]:
     """The run between these places. A recovery at a place is the one between both calls."""
-    before, pieces = [*events[:places[0]]], []
+    before = [*events[:places[0]]]
+    pieces: List[Piece] = []
     for first, last in zip(places, [*places[1:], len(events)]):
         begin = first + (first < len(events) and events[first] == "recover")
         pieces.append(Piece(before, [*events[begin:max(begin, last)]]))

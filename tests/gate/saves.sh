@@ -1,7 +1,7 @@
 #!/usr/bin/env bash
-# Saves and resumes: two worked runs byte for byte, the example of docs/FORMATS.md, which has each kind of line, files that are spoiled in one place or
-# two or stand at their bounds (tests/spoiled_saves.py), the runs of examples/save in one piece, and random runs cut at three places
-# (tests/resumed_runs.py). The program is ./safetynet, or what SAFETYNET says.
+# Saves and resumes: two worked runs byte for byte, the example of docs/FORMATS.md, which has each kind of line, the runs of examples/save in one piece,
+# which file decides, outputs that fail, files that are spoiled in one place or two or stand at their bounds (tests/spoiled_saves.py), and random runs cut
+# at three places (tests/resumed_runs.py). The program is ./safetynet, or what SAFETYNET says.
 set -u
 cd "$(dirname "$0")/../.." || exit 1
 . tests/gate/lib/checks.sh
@@ -95,6 +95,37 @@ joined_is_saved() {
     [ "$(grep -c '^rec ' "$work/report")" = "$(sed -n 's/^committed //p' examples/save/after_thrice.report)" ]
 }
 is_so "both scripts with a recovery between are saved as one" joined_is_saved
+
+# The files are looked at in their order, and the first that is refused decides.
+printf 'no word\n' >"$work/bad.hex"
+ends_with() { # status, its words, the call's words; nothing else is written
+  local want=$1 words=$2 status
+  shift 2
+  "$SAFETYNET" "$@" >"$work/console" 2>"$work/report"
+  status=$?
+  [ "$status" -eq "$want" ] && [ ! -s "$work/console" ] && [ "$(tail -n 1 "$work/report")" = "# safetynet: $words" ] && [ "$(wc -l <"$work/report")" -eq 2 ]
+}
+is_so "a program that is refused leaves the save file alone" ends_with 3 'program badhexline' resume "$work/bad.hex" "$work/missing" "$work/missing"
+is_so "a save file that isn't there leaves the script alone" ends_with 2 store resume $letters "$work/missing" "$work/bad.hex"
+is_so "and so does one that is refused" ends_with 12 'save notlegal' resume $letters examples/save/spoiled.save "$work/missing"
+echo 'step 1' >"$work/node.script"
+is_so "a script is one for the save file's nodes" ends_with 4 'script outofrange' resume $echoes "$work/read.save" "$work/node.script"
+is_so "a script isn't a save file" ends_with 12 'save badline' resume $letters examples/save/once.script examples/save/once.save
+
+# Outputs that take nothing. Where the console breaks, there is no save file.
+broken() { # console, report, the call's words
+  local status
+  "$SAFETYNET" "${@:3}" >"$1" 2>"$2"
+  status=$?
+  [ "$status" -eq 5 ]
+}
+saving=(save --nodes 2 "$letters" examples/save/once.script)
+resuming=(resume "$letters" examples/save/once.save examples/save/after_once.script)
+is_so "a save file that can't be written is told of" broken "$work/console" /dev/full "${saving[@]}"
+is_so "a console that takes nothing leaves no save file" broken /dev/full "$work/report" "${saving[@]}"
+is_so "but the two lines that say so" diff <(printf '%s\n' '# why: not all of the output could be written' '# safetynet: sink') "$work/report"
+is_so "a report that takes nothing ends what goes on" broken "$work/console" /dev/full "${resuming[@]}"
+is_so "and so does a console" broken /dev/full "$work/report" "${resuming[@]}"
 
 is_shown() { # what it says, command..
   local what=$1
