@@ -71,6 +71,12 @@ from_page() {
   "$SAFETYNET" resume $echoes "$work/page.save" /dev/null >"$work/console" 2>"$work/report" && grep -qx 'committed 3' "$work/report" && [ ! -s "$work/console" ]
 }
 is_so "a machine goes on from it, by the program that the page names" from_page
+printf 'kill b1\nkill b0\n' >"$work/kills.script"
+stays_dead() {
+  "$SAFETYNET" resume $echoes "$work/page.save" "$work/kills.script" >"$work/console" 2>"$work/report" &&
+    diff <(printf '%s\n' '1 kill b1: alreadydead' '2 kill b0: killed') <(head -n 2 "$work/report")
+}
+is_so "its dead switch is dead there, and no other" stays_dead
 refused_as_on_page() {
   sed '5s/.*/rec 0 0000000 0/' examples/save/once.save >"$work/once.save"
   "$SAFETYNET" resume $letters "$work/once.save" /dev/null >"$work/console" 2>"$work/report"
