@@ -69,6 +69,7 @@ change aside "second"
 check "a crate that the program doesn't stand on changes nothing" 7 "first:x" 0 x
 touch "$repo/crates/low/src/lib.rt"
 check "a text that was only touched is built already" 7 "first:x" 0 x
+is_so "which is known without a build" diff - "$work/err" <<<"report of x"
 change right "second"
 check "of a text that changed" 7 "first:x" 1 x
 is_so "the crate and those above it are proved" diff - <(calls) <<'END'
@@ -126,6 +127,64 @@ check "those that are allowed are" 7 "third:x" 1 x
 change low "fourth"
 check "--build builds" 0 "" 1 --build
 check "and then has nothing to do" 0 "" 0 --build
+is_so "what stands beside the program, and which toolchain built it" diff - <(ls -A "$repo/build" && cat "$repo/build/toolchain") <<'END'
+absent
+current
+safetynet
+sum
+toolchain
+another toolchain
+END
+echo "of an older date" >"$work/older"
+touch -d "1 hour ago" "$work/older"
+cp -p "$work/older" "$repo/crates/low/src/lib.rt"
+check "a text that bears an older date is a change" 7 "of an older date:x" 1 x
+check "at the first call alone" 7 "of an older date:x" 0 x
+mkdir "$repo/crates/low/specs"
+echo "a definition" >"$repo/crates/low/specs/Lib.antt"
+check "so is a part of a crate that wasn't there" 7 "of an older date:x" 1 x
+is_so "which is proved again" diff - <(calls) <<<"low"
+rm -r "$repo/crates/low/specs"
+check "and one that is gone" 7 "of an older date:x" 1 x
+change low "two at once"
+: >"$CALLS"
+for call in one another; do
+  (cd "$repo" && PATH=$PATH_TO ./safetynet --proved "$call") >"$work/$call" 2>/dev/null &
+done
+wait
+is_so "two calls at once both come to their ends" diff - <(cat "$work/one" "$work/another") <<'END'
+two at once:one
+two at once:another
+END
+is_so "and each crate is proved once" diff - <(calls) <<'END'
+left
+low
+right
+safetynet_program
+END
+change low "untold"
+(cd "$repo" && PATH=$PATH_TO ./safetynet --proved x) >"$work/out" 2>/dev/full
+is_so "where nothing can be said nothing is run" [ "$?:$(cat "$work/out")" = 125: ]
+# Root may write everywhere, so a test as root gives that up.
+as_user=()
+[ "$(id -u)" != 0 ] || as_user=(setpriv "--bounding-set=-dac_override" --)
+if has "${as_user[0]-env}" "a checkout that can't be written" && ${as_user[@]+"${as_user[@]}"} true 2>/dev/null; then
+  in_read_only() {
+    chmod -R a-w "$repo"
+    (cd "$repo" && PATH=$PATH_TO ${as_user[@]+"${as_user[@]}"} ./safetynet --proved x) >"$work/out" 2>"$work/err"
+    local status=$?
+    chmod -R u+w "$repo"
+    return "$status"
+  }
+  in_read_only
+  is_so "in a checkout that can't be written nothing is built" [ "$?:$(cat "$work/out")" = 125: ]
+  is_so "which is told in a line" grep -qx "# no program was built or run: $repo/build/[a-z.]*: Permission denied" "$work/err"
+  check "with the right to write" 7 "untold:x" 1 x
+  in_read_only
+  is_so "what was built there is run" [ "$?:$(cat "$work/out")" = "7:untold:x" ]
+fi
+change low "fourth"
+check "the text for what comes next" 7 "fourth:x" 1 x
 
 # An answer before the proof: the same call, without a word that says how.
 early() { # what it shows, status, output, words..
@@ -173,6 +232,23 @@ early "where there is no answer before the proof, the proved one comes alone" 7 
 says "which is said, with the reason" "# no answer before the proof: checked: no-answer: more than 1 MiB"
 check "an unproved run without an answer" 125 "" 1 --unproved replay x
 says "says so too" "# rt try gave no answer: checked: no-answer: more than 1 MiB"
+change low "eighth again"
+rm "$FAILS.try"
+: >"$FAILS.first"
+(cd "$repo" && PATH=$PATH_TO ./safetynet replay x) >/dev/full 2>"$work/err"
+is_so "an answer that can't be written is left to the proved program" [ "$?" = 7 ]
+rm "$FAILS.first"
+says "which is said" "# no answer before the proof: it can't be written (No space left on device)"
+printf foretold >"$FAILS.try"
+check "what rt try says of a later check" 7 "eighth again:x" 1 --unproved x
+is_so "isn't in the report" diff - "$work/err" <<'END'
+# nothing of this run is proved
+report of x
+END
+rm "$FAILS.try"
+echo "step 0 step 1" >"$work/lines"
+(cd "$repo" && PATH=$PATH_TO ./safetynet --unproved drive x <"$work/lines") >"$work/out" 2>"$work/err"
+is_so "an unproved drive reads its lines" diff - "$work/out" <<<"eighth again:drive x step 0 step 1"
 change low "ninth"
 printf slow >"$FAILS.try"
 early "a proof that ends first is not waited for" 7 "ninth:replay x" replay x
@@ -193,6 +269,25 @@ change low "twelfth"
 mkfifo "$repo/once"
 early "what can be read once only is not read before the proof" 7 "twelfth:check once" check once
 says "which is said" "# no answer before the proof: once is no plain file"
+check "nor without one" 125 "" 0 --unproved check once
+change low "twelfth again"
+early "a name that rt try has for a file of its own" 7 "twelfth again:replay program" replay program
+says "has no answer that could be compared" "# no answer before the proof: there is no file program, and where rt try runs the program there is one"
+mkdir "$repo/save"
+change low "twelfth, saved"
+answers_first "a folder that is called as a command" 7 "twelfth, saved:save x" save x
+says "isn't taken for a file" "# proved: the same answer"
+change low "twelfth, refused"
+: >"$FAILS.why"
+for file in "$repo/crates.txt" ../repo/crates.txt save/../crates.txt; do
+  change low "twelfth, $file"
+  answers_first "a file in another folder that is refused" 4 "twelfth, $file" check "$file"
+  is_so "has its name in both reports" diff - <(grep -v "^# \(building\|built\|proved [0-9]\|this\|before\)" "$work/err") <<END
+# why: $file:3: no event
+# proved: the same answer
+END
+done
+rm "$FAILS.why"
 change low "thirteenth"
 echo right >"$FAILS"
 change right "thirteenth"
@@ -302,6 +397,62 @@ for crate in low safetynet_program; do
 done
 is_so "what wasn't proved" diff - <(calls) <<<"safetynet_program"
 
+# The same by other signals. One that kills what builds leaves nothing that goes on either.
+gone() { # a process; one that has ended may still be there for whoever is to ask about it
+  local _
+  for _ in {1..300}; do
+    { [ ! -e "/proc/$1" ] || grep -q "^State:.Z" "/proc/$1/status"; } 2>/dev/null && return
+    sleep 0.1
+  done
+  false
+}
+nobody_tries() { # nor does anybody soon
+  local _
+  for _ in {1..300}; do
+    pgrep -f "$work/[b]in/rt try" >/dev/null || return 0
+    sleep 0.1
+  done
+  false
+}
+# Calls ./safetynet and ends it by a signal once a file has something.
+ended_by() { # signal, the file, words..
+  local signal=$1 file=$2 caller
+  shift 2
+  (cd "$repo" && PATH=$work/bin:$PATH exec env --default-signal=HUP,INT ./safetynet "$@") >"$work/out" 2>"$work/err" &
+  caller=$!
+  for _ in {1..600}; do
+    [ -s "$file" ] && break
+    sleep 0.1
+  done
+  kill -s "$signal" "$caller"
+  # by who waits, that it was killed isn't said
+  wait "$caller" 2>/dev/null
+}
+for ends in "INT 130" "HUP 129" "KILL 137"; do
+  change low "fifth, $ends"
+  hang=$FAILS.hang.low
+  touch "$hang"
+  ended_by "${ends% *}" "$hang" --proved x
+  is_so "a build that ends by ${ends% *} says so by its status, and runs nothing" [ "$?:$(cat "$work/out")" = "${ends#* }:" ]
+  is_so "and leaves no rt behind" gone "$(cat "$hang")"
+  rm "$hang"
+  check "the next call builds" 7 "fifth, $ends:x" 1 x
+done
+is_so "and what was left beside the program is gone" diff - <(ls -A "$repo/build") <<'END'
+absent
+current
+safetynet
+sum
+toolchain
+END
+printf slow >"$FAILS.try"
+for ends in TERM HUP KILL; do
+  : >"$CALLS"
+  ended_by "$ends" "$CALLS" --unproved x
+  is_so "an unproved run that ends by $ends leaves no rt behind" nobody_tries
+done
+rm "$FAILS.try"
+
 # Without rt, and without a build.
 rm -rf "$repo"/crates/*/out "$repo/build" "$work/bin"/*
 for tool in bash env dirname readlink cat find; do ln -s "$(command -v "$tool")" "$work/bin/$tool"; done
@@ -325,6 +476,11 @@ check "a call for a page with another word too" 125 "" 0 replay --help x
 check "a page of no command" 125 "" 0 help fly
 check "and says why" 125 "" 0 --build
 is_so "rt is named" grep -q "rt is not on the path" "$work/err"
+printf '#!/bin/sh\n' >"$work/bin/rt"
+chmod +x "$work/bin/rt"
+check "nor is anything built without Python" 125 "" 0 --build
+is_so "which is named" grep -q "python3 is not on the path" "$work/err"
+check "nor answered" 125 "" 0 --unproved x
 
 # The same with rt itself: a library, and a program that puts what it gives.
 small=$work/small
@@ -392,6 +548,10 @@ small_build "a library beyond the handles isn't built" 125 ""
 
 # The pages are what the program itself says.
 ./safetynet --build || { echo "the program was not built" >&2; exit 1; }
+odd=$'a "b"\\c\n~\xc3\xa9'
+is_so "a name is shown before the proof as the program shows it" diff \
+  <(python3 -c 'import sys; sys.path.insert(0, "."); from early import shown_name; print("# why: %s: no such file" % shown_name(sys.argv[1]).decode())' "$odd") \
+  <(build/safetynet dis "$odd" 2>&1 | grep "^# why: ")
 for call in overview= overview=--help overview=-h overview=help "${page_calls[@]}"; do
   is_so "the page ${call%%=*} is what the program says to '${call#*=}'" diff "$pages/${call%%=*}.txt" <(build/safetynet ${call#*=})
 done

@@ -44,13 +44,14 @@ refuses "a program with a crate that isn't proved" "the program isn't built"
 : >"$FAILS"
 refuses "one that isn't of this version" "the program says b'first:--version\\n' to --version, and not the version of CHANGELOG.md, with status 7"
 is_so "the program is put in place" builds
-mkdir "$work/none"
-printf '#!/bin/sh\nexit 1\n' >"$work/none/rt"
-chmod +x "$work/none/rt"
-PATH=$work/none:$PATH refuses "one of an unknown toolchain" "the toolchain's command rt doesn't tell its version"
+: >"$repo/build/toolchain"
+refuses "one of an unknown toolchain" "the toolchain that built the program didn't tell its version"
+rm "$repo/build/toolchain"
+is_so "the program is built again" builds
 is_so "nothing is left of these" [ -z "$(ls -A "$to")" ]
 
-# The archive.
+# The archive. What is on the path by then didn't prove the program.
+echo "another toolchain" >"$work/WHAT"
 releases "the archive is named" 0 "to here/${archive##*/}" ""
 is_so "and stands there alone" [ "$(ls -A "$to")" = "${archive##*/}" ]
 is_so "it is unpacked" unpack
@@ -83,7 +84,7 @@ is_so "and is the same bytes" cmp "$work/first.tar.gz" "$archive"
 
 # What was proved of which text.
 is_so "the program's sum" proved "  program    SHA-256 $(sha256sum <"$repo/build/safetynet" | cut -d ' ' -f 1)"
-is_so "the toolchain" proved "  toolchain  one toolchain"
+is_so "the toolchain that built it" proved "  toolchain  one toolchain"
 is_so "the handles" proved "  handles    Handles allowed: Wait."
 is_so "what the program needs" proved "  Linux on a processor of x86-64-v2 or later, and nothing else: the program is static."
 is_so "where there is no repository" proved "  text       of no repository"

@@ -4,8 +4,9 @@
 A proof fails where the file FAILS names the crate, and where a text asks for a handle that isn't allowed. What is built has a sum of its
 text and of the libraries below; the program prints the text of the library `low` and its words, and reports the words. `rt try` does the
 same with the present text, and says what rt itself says behind it; the file FAILS.try has it answer otherwise, or not at all. Where the
-file FAILS.first is there, no proof ends before the call has put an answer. Where the toolchain has a folder `kept`, it keeps there what
-was proved; else it is one that keeps nothing.
+file FAILS.first is there, no proof ends before the call has said what becomes of an answer. Where the file FAILS.why is there, both refuse the
+file that the last word names. For `drive` standard input is put out too. Where the toolchain has a folder `kept`, it keeps there what was
+proved; else it is one that keeps nothing.
 """
 import hashlib
 import os
@@ -22,15 +23,28 @@ if (KIT / "kept").is_dir():
 REACHES = {"Net": r"\bnet\b"}
 
 
+# The program: what it puts out is the text LOW and its words.
+PROGRAM = """#!/usr/bin/env bash
+if [ -e "$FAILS.why" ]; then
+  echo "LOW"
+  echo "# why: ${!#}:3: no event" >&2
+  exit 4
+fi
+echo "LOW:$*"
+echo "report of $*" >&2
+exit 7
+"""
+
+
 def told(*words):
     with open(os.environ["CALLS"], "a") as calls:
         print(*words, file=calls)
 
 
 def wait_for_an_answer():
-    """Until the file has something that the call's standard output goes to, where it is to have an answer first; at most half a minute."""
+    """Until the call has said on standard error whether there is an answer, where there is to be one first; at most half a minute."""
     latest = time.monotonic() + 30
-    while Path(f"{FAILS}.first").exists() and (KIT / "out").stat().st_size == 0 and time.monotonic() < latest:
+    while Path(f"{FAILS}.first").exists() and "before the proof" not in (KIT / "err").read_text() and time.monotonic() < latest:
         time.sleep(0.02)
 
 
@@ -81,7 +95,7 @@ class Crate:
     def link(self, made, program):
         told(self.name, made, program)
         low = next(Path(it.rlib, "text").read_text().strip() for it in self.below() if it.name == "low")
-        Path(self.folder, program).write_text(f'#!/usr/bin/env bash\necho "{low}:$*"\necho "report of $*" >&2\nexit 7\n')
+        Path(self.folder, program).write_text(PROGRAM.replace("LOW", low))
         Path(self.folder, program).chmod(0o755)
         return 0
 
@@ -120,8 +134,13 @@ elif __name__ == "__main__":
         sys.exit(6)
     if how == "slow":
         time.sleep(60)
-    print(f"{'other' if how == 'other' else low}:{' '.join(words)}")
-    print(f"report of {' '.join(words)}", file=sys.stderr)
-    print("checked: ended status=7\nraces: not looked for, since a kit has no ThreadSanitizer", file=sys.stderr)
-    print("run=ended status=7 runners=1 proved=no", file=sys.stderr)
-    sys.exit(7)
+    if how == "foretold":
+        print("rt: a check will refuse this: src/main.rt: error[reserved-name]", file=sys.stderr)
+    status, put, report = 7, f"{'other' if how == 'other' else low}:{' '.join(words)}", f"report of {' '.join(words)}"
+    if Path(f"{FAILS}.why").exists():
+        status, put, report = 4, low, f"# why: {words[-1]}:3: no event"
+    print(put, *(sys.stdin.read().split() if words[:1] == ["drive"] else []))
+    print(report, file=sys.stderr)
+    print(f"checked: ended status={status}\nraces: not looked for, since a kit has no ThreadSanitizer", file=sys.stderr)
+    print(f"run=ended status={status} runners=1 proved=no", file=sys.stderr)
+    sys.exit(status)
