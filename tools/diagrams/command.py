@@ -95,6 +95,15 @@ def program_of(wish: Wish) -> str:
     return wish.options.get("--safetynet") or os.environ.get("SAFETYNET") or str(default)
 
 
+def have_built(program: str) -> None:
+    """Has the repository's own program built where it isn't, which says how far it is. Raises Refusal where it can't be built."""
+    if os.path.realpath(program) != str(BESIDE / "safetynet"):
+        return
+    status = subprocess.run([program, "--build"], stdin=subprocess.DEVNULL, stdout=subprocess.DEVNULL, check=False).returncode
+    if status:
+        raise Refusal(status if status > 0 else 1, f"{program} isn't built")
+
+
 class Said(NamedTuple):
     """What the program put: the console's bytes, and the report."""
 
@@ -105,6 +114,7 @@ class Said(NamedTuple):
 def asked(wish: Wish, more: Sequence[str]) -> Said:
     """What the program says to a replay with these words more. Raises Refusal where it refuses, or can't be asked."""
     program = program_of(wish)
+    have_built(program)
     options = [f"{name}={wish.options[name]}" for name in PASSED if name in wish.options]
     try:
         done = subprocess.run([program, "replay", *more, *options, *wish.files], stdin=subprocess.DEVNULL, stdout=subprocess.PIPE, stderr=subprocess.PIPE, check=False)
