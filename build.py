@@ -342,8 +342,8 @@ def prove(name: str, jobs: str, program: str, toolchain: str) -> int:
         it.rlib = f"{out}/rlib/{it.name}.rlib"
     # nothing is written into a file that rt gave, or that runs: such a file is removed
     shutil.rmtree(crate.rlib, ignore_errors=True)
-    for it in Path(out).glob(f"{name}*") if crate.is_program else []:
-        it.unlink()
+    for old in [*Path(out).glob(f"{name}*")] if crate.is_program else []:
+        old.unlink()
     if is_given(rt, crate, out):
         return 0
     if reaches_beyond(rt, crate):
@@ -378,8 +378,8 @@ class Built:
         found = hashlib.sha256(repr((self.for_all, line)).encode())
         for it in files_of(crate):
             found.update(repr((str(it.relative_to(HERE)), it.read_bytes())).encode())
-        for it in sorted(self.under[crate]):
-            found.update(self.product(it).read_bytes())
+        for lower in sorted(self.under[crate]):
+            found.update(self.product(lower).read_bytes())
         return found.hexdigest()
 
     def note_of(self, crate: str) -> str:
@@ -559,7 +559,7 @@ def build_and_run(program: str, folder: str, how: Optional[str] = None, *words: 
     """Builds the program, and then runs it if there is a word that says how; gives the status."""
     end_by_signals()
     to, first = Path(folder), FirstAnswer(program, [*words]) if how == "both" else None
-    meanwhile = functools.partial(first.look, lambda: MINUTES_FROM_NOTHING) if first else bool
+    meanwhile: Callable[[], object] = functools.partial(first.look, lambda: MINUTES_FROM_NOTHING) if first else bool
     try:
         with locked(folder_of(program), meanwhile) as lock:
             to.mkdir(exist_ok=True)

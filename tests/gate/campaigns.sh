@@ -15,17 +15,6 @@ export SAFETYNET
 skipped() { # what isn't there, what is skipped
   echo "skipped, since $1 isn't there: $2"
 }
-python_with() { # modules..
-  local python
-  for python in python3 /usr/bin/python3; do
-    if command -v "$python" >/dev/null && "$python" -c "import sys
-for name in sys.argv[1:]: __import__(name)" "$@" 2>/dev/null; then
-      echo "$python"
-      return
-    fi
-  done
-  return 1
-}
 
 if has shellcheck "looking through the campaigns' scripts"; then
   is_so "shellcheck has nothing to say" is_silent shellcheck campaigns/run campaigns/slurm_node campaigns/slurm/status.sh
@@ -34,14 +23,7 @@ if has mypy "checking the campaigns' types"; then
   is_so "mypy has nothing to say" is_silent mypy --config-file campaigns/pyproject.toml --no-error-summary campaigns/campaign campaigns/tests/*.py
 fi
 if python=$(python_with pytest yaml); then
-  tests() {
-    (cd campaigns && "$python" -m pytest -q) >"$work/tests" 2>&1
-    local status=$?
-    [ "$status" -eq 0 ] || tail -n 40 "$work/tests" >&2
-    tail -n 1 "$work/tests"
-    return "$status"
-  }
-  is_so "the tests pass" tests
+  is_so "the tests pass" passes_pytest "$python" campaigns
 else
   skipped "pytest or yaml" "the campaigns' tests"
 fi

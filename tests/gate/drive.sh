@@ -66,8 +66,7 @@ compared() {
 is_so "scripts, lines strewn in, and each kind of end are as replay has them" compared
 
 if has mypy "checking the types of what compares"; then
-  mypy_says() { mypy --strict --allow-untyped-calls --follow-imports silent --ignore-missing-imports --no-error-summary --cache-dir "$work/mypy" "$@"; }
-  is_so "mypy has nothing to say of them" mypy_says tests/compare_drive.py tests/drive_ends.py tests/driven.py
+  is_so "mypy has nothing to say of them" mypy_says --allow-untyped-calls --follow-imports silent --ignore-missing-imports tests/compare_drive.py tests/drive_ends.py tests/driven.py
 fi
 if has shellcheck "looking through this script"; then
   is_so "shellcheck has nothing to say of it" shellcheck -x tests/gate/drive.sh

@@ -6,9 +6,7 @@
 # status and its word.
 set -u
 cd "$(dirname "$0")/../.." || exit 1
-failed=0 passed=0
-work=$(mktemp -d)
-trap 'rm -rf "$work"' EXIT
+. tests/gate/lib/checks.sh
 
 ./safetynet --build || { echo "the program was not built" >&2; exit 1; }
 
@@ -345,5 +343,4 @@ for text in examples/{asm,lessons}/*.s; do
 done
 refused 2 store examples/first/lacking.hex examples/first/a.script
 
-echo "examples: $passed passed, $failed failed"
-[ "$failed" -eq 0 ]
+told examples

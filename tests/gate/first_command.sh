@@ -560,4 +560,11 @@ for page in "$pages"/*.txt; do
   is_so "$(basename "$page") has at most 60 lines of 81 letters" awk 'length > 81 { exit 1 } END { exit NR > 60 }' "$page"
 done
 
+if has mypy "checking the types of what builds"; then
+  is_so "mypy has nothing to say of it" mypy_says build.py early.py
+fi
+if has shellcheck "looking through this script"; then
+  is_so "shellcheck has nothing to say of it" is_silent shellcheck -x -e SC2086,SC2115,SC2254 safetynet tests/gate/first_command.sh
+fi
+
 told "first command"

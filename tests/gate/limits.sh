@@ -2,9 +2,7 @@
 # Inputs as large as they may be and one past it, bytes of no form, and outputs that can't be written.
 set -u
 cd "$(dirname "$0")/../.." || exit 1
-failed=0 passed=0
-work=$(mktemp -d)
-trap 'rm -rf "$work"' EXIT
+. tests/gate/lib/checks.sh
 
 ./safetynet --build || { echo "the program was not built" >&2; exit 1; }
 
@@ -218,5 +216,4 @@ broken /dev/full "$work/report" run --order drawn --nodes 4 examples/order/turns
 broken "$work/console" /dev/full run --order drawn --nodes 4 examples/order/turns.hex
 broken "$work/console" /dev/full demo 100
 
-echo "limits: $passed passed, $failed failed"
-[ "$failed" -eq 0 ]
+told limits

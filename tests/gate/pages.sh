@@ -50,7 +50,7 @@ if has shellcheck "looking through the shell's scripts"; then
   is_so "nor of what installs and tests" is_silent shellcheck -x tools/packages tests/gate/{installed,released,packages,pages,stands_alone}.sh
 fi
 if has mypy "checking the tools' types"; then
-  is_so "mypy has nothing to say of the tools" mypy --strict --no-error-summary --cache-dir "$work/mypy" tools/*.py tools/release tests/completed_words.py tests/pages_of_*.py
+  is_so "mypy has nothing to say of the tools" mypy_says tools/*.py tools/release tests/completed_words.py tests/pages_of_*.py
 fi
 
 told pages

@@ -60,6 +60,6 @@ if has shellcheck "checking this part"; then
   is_so "shellcheck has nothing to say of it" shellcheck -x tests/gate/protocol.sh
 fi
 if has mypy "checking the types of the comparison"; then
-  is_so "mypy has nothing to say of it" mypy --strict --no-error-summary --cache-dir "$work/mypy" tests/protocol_table.py
+  is_so "mypy has nothing to say of it" mypy_says tests/protocol_table.py
 fi
 told protocol

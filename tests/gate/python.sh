@@ -10,18 +10,6 @@ export MYPY_CACHE_DIR=$work/mypy
 skipped() { # the tool that isn't there
   echo "python: skipped: $1 isn't here"
 }
-# Debian's modules belong to Debian's Python, and another one may come first on the path.
-python_with() { # modules..
-  local python
-  for python in python3 /usr/bin/python3; do
-    if command -v "$python" >/dev/null && "$python" -c "import sys; sys.version_info >= (3, 9) or sys.exit(1)
-for name in sys.argv[1:]: __import__(name)" "$@" 2>/dev/null; then
-      echo "$python"
-      return
-    fi
-  done
-  return 1
-}
 typed() { # folder, files..
   (cd "$1" && shift && MYPYPATH=$top/python:$top/python/examples is_silent_but_success mypy --strict --config-file "$top/python/pyproject.toml" "$@")
 }
@@ -50,14 +38,7 @@ else
 fi
 
 if python=$(python_with pytest hypothesis); then
-  tests() {
-    (cd python && "$python" -m pytest -q) >"$work/tests" 2>&1
-    local status=$?
-    [ "$status" -eq 0 ] || tail -n 40 "$work/tests" >&2
-    tail -n 1 "$work/tests"
-    return "$status"
-  }
-  is_so "the tests pass" tests
+  is_so "the tests pass" passes_pytest "$python" python
 else
   skipped "pytest or hypothesis"
 fi

@@ -4,9 +4,7 @@
 # is legal.
 set -u
 cd "$(dirname "$0")/../.." || exit 1
-failed=0 passed=0
-work=$(mktemp -d)
-trap 'rm -rf "$work"' EXIT
+. tests/gate/lib/checks.sh
 
 ./safetynet --build || { echo "the program was not built" >&2; exit 1; }
 
@@ -133,6 +131,6 @@ refused --seed -1 "$count"
 refused --journal=x "$count"
 refused "$count" "$count"
 
-echo "runs: $passed passed, $failed failed"
-tests/compare_runs.py ./safetynet 10 "gate" || failed=$((failed + 1))
-[ "$failed" -eq 0 ]
+is_so "journals of ten runs replay to what the runs said" tests/compare_runs.py ./safetynet 10 "gate"
+
+told runs

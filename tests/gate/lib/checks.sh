@@ -18,6 +18,28 @@ is_silent() { # command..
   head -n 5 "$work/said" >&2
   [ "$status" -eq 0 ] && [ ! -s "$work/said" ]
 }
+mypy_says() { # options and files..
+  mypy --strict --no-error-summary --cache-dir "$work/mypy" "$@"
+}
+# Debian's modules belong to Debian's Python, and another one may come first on the path.
+python_with() { # modules..
+  local python
+  for python in python3 /usr/bin/python3; do
+    if command -v "$python" >/dev/null && "$python" -c "import sys; sys.version_info >= (3, 9) or sys.exit(1)
+for name in sys.argv[1:]: __import__(name)" "$@" 2>/dev/null; then
+      echo "$python"
+      return
+    fi
+  done
+  return 1
+}
+passes_pytest() { # Python, the folder of what is tested
+  (cd "$2" && "$1" -m pytest -q) >"$work/tests" 2>&1
+  local status=$?
+  [ "$status" -eq 0 ] || tail -n 40 "$work/tests" >&2
+  tail -n 1 "$work/tests"
+  return "$status"
+}
 told() { # the script's name
   echo "$1: $passed passed, $failed failed"
   [ "$failed" -eq 0 ]
