@@ -14,7 +14,7 @@ import sys
 import tempfile
 from pathlib import Path
 
-from bodies import ROOT, below, copy_crates, needs_of
+from small_repository import with_program
 
 PROGRAM = """#![tactic(auto)]
 
@@ -70,17 +70,9 @@ NAMES = "rv_asm rv_statement text_lines rv_decode sn_base itoa byteorder"
 
 
 def main():
-    needs = needs_of((ROOT / "crates.txt").read_text())
-    lower = below(NAMES.split(), needs)
     with tempfile.TemporaryDirectory() as folder:
         folder = Path(folder)
-        copy_crates(folder, None, lower)
-        timed = folder / "crates" / "timed"
-        for name, text in {"src/main.rt": PROGRAM, "specs/Lib.antt": "", "proofs/Lib.antt": ""}.items():
-            (timed / name).parent.mkdir(parents=True, exist_ok=True)
-            (timed / name).write_text(text)
-        listed = "".join(f"{name}: {' '.join(needs[name])}\n" for name in lower)
-        (folder / "crates.txt").write_text(f"{listed}timed: {NAMES}\n")
+        timed = with_program(folder, "timed", NAMES, {"src/main.rt": PROGRAM})
         done = subprocess.run(["rt", "run"], cwd=timed, capture_output=True, text=True)
     rows = re.findall(r"^timed (\w+) (\d+) (\d+) (\d+)$", done.stdout, re.MULTILINE)
     if not rows:

@@ -15,7 +15,9 @@ import subprocess
 import sys
 import tempfile
 from pathlib import Path
-from typing import Dict, List, Optional, Tuple
+from typing import Dict, Optional, Tuple
+
+from small_repository import with_program
 
 ROOT = Path(__file__).resolve().parent.parent
 
@@ -508,50 +510,11 @@ STRUCTURES = {
 }
 
 
-def needs_of(lines: str) -> Dict[str, List[str]]:
-    """What each crate of a crates.txt names."""
-    found = re.findall(r"^(\w+)[^:#\n]*:(.*)$", lines, re.MULTILINE)
-    return {name: needs.split() for name, needs in found}
-
-
-def below(names: List[str], needs: Dict[str, List[str]]) -> List[str]:
-    """The crates of the repository that these stand on, themselves among them."""
-    seen: List[str] = []
-    for name in names:
-        for lower in below(needs.get(name, []), needs) + [name]:
-            if lower in needs and lower not in seen:
-                seen.append(lower)
-    return seen
-
-
-def copy_crates(folder: Path, revision: Optional[str], names: List[str]) -> None:
-    """The sources of these crates, as they stand in the revision or, with none, here."""
-    paths = [f"crates/{name}" for name in names]
-    if revision is None:
-        command = ["tar", "-c", "--exclude=out"] + paths
-    else:
-        command = ["git", "archive", revision] + paths
-    packed = subprocess.run(command, cwd=ROOT, check=True, capture_output=True).stdout
-    subprocess.run(["tar", "-x"], cwd=folder, check=True, input=packed)
-
-
 def times_of(folder: Path, revision: Optional[str], structure: str) -> Dict[Tuple[str, int], Tuple[float, int]]:
     """The nanoseconds of each call at each size, and what the calls saw."""
     names, program = STRUCTURES[structure]
-    if revision is None:
-        lines = (ROOT / "crates.txt").read_text()
-    else:
-        lines = subprocess.run(["git", "show", f"{revision}:crates.txt"], cwd=ROOT, check=True, capture_output=True, text=True).stdout
-    needs = needs_of(lines)
-    lower = below(names.split(), needs)
     folder.mkdir()
-    copy_crates(folder, revision, lower)
-    timed = folder / "crates" / "timed"
-    for name, text in {"specs/Lib.antt": "", "proofs/Lib.antt": "", **program}.items():
-        (timed / name).parent.mkdir(parents=True, exist_ok=True)
-        (timed / name).write_text(text)
-    listed = "".join(f"{name}: {' '.join(needs[name])}\n" for name in lower)
-    (folder / "crates.txt").write_text(f"{listed}timed: {names}\n")
+    timed = with_program(folder, "timed", names, program, revision)
     done = subprocess.run(["rt", "run"], cwd=timed, capture_output=True, text=True)
     rows = re.findall(r"^timed (\S+) (\d+) (\d+) (\d+) (\d+)$", done.stdout, re.MULTILINE)
     if not rows:

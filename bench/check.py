@@ -10,7 +10,6 @@ all of four, by the same proved program; the peak memory of the whole program is
 included.
 """
 import os
-import shutil
 import subprocess
 import sys
 import tempfile
@@ -18,17 +17,9 @@ from pathlib import Path
 
 sys.path.insert(0, str(Path(__file__).resolve().parent))
 import flat
+from small_repository import with_program
 
-CRATES = {
-    "sn_base": "byteorder",
-    "sn_io": "sn_base",
-    "rv_decode": "sn_base",
-    "rv_core": "sn_base rv_decode byteorder",
-    "sn_consistency": "rv_core rv_decode sn_base byteorder",
-    "projection_places": "rv_core rv_decode sn_base sn_consistency byteorder",
-    "trace_check": "sn_base sn_io rv_core rv_decode sn_consistency projection_places byteorder rayon",
-    "timed": "trace_check sn_base sn_io rv_core rv_decode sn_consistency projection_places byteorder rayon",
-}
+MENTIONED = "trace_check sn_base sn_io rv_core rv_decode sn_consistency projection_places byteorder rayon"
 
 HERE = """#![tactic(auto)]
 
@@ -115,18 +106,7 @@ fn main() {
 
 
 def made_here(folder, turns):
-    crates = Path(__file__).resolve().parent.parent / "crates"
-    for name in CRATES:
-        for part in ["src", "specs", "proofs"]:
-            if name == "timed":
-                (folder / "crates" / name / part).mkdir(parents=True)
-            else:
-                shutil.copytree(crates / name / part, folder / "crates" / name / part)
-    timed = folder / "crates" / "timed"
-    (timed / "src" / "main.rt").write_text(flat.filled(HERE, turns))
-    for part in ["specs", "proofs"]:
-        (timed / part / "Lib.antt").write_text("")
-    (folder / "crates.txt").write_text("".join(f"{name}: {needs}\n" for name, needs in CRATES.items()))
+    timed = with_program(folder, "timed", MENTIONED, {"src/main.rt": flat.filled(HERE, turns)})
     flat.answer_of(["rt", "run"], timed)
     return timed / "out" / "timed"
 

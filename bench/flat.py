@@ -10,11 +10,12 @@ Each machine is a small program of its own, made in a folder of its own; the one
 prints the time of its steps, without the start, and how many were legal: all of them, in both.
 """
 import re
-import shutil
 import subprocess
 import sys
 import tempfile
 from pathlib import Path
+
+from small_repository import with_program
 
 NODES = 4
 # lui x5, 0x80001; slli x6, x10, 6; add x5, x5, x6: each core has a block of its own
@@ -26,14 +27,7 @@ LOOP = ["00700393", "0072a023", "0002a403", "2072a4af", "1002a5af", "1872a62f", 
 SEEN = [0, 0, 7, 7, 0, 0, 0, 0, 0, 0, 0, 0]
 DONE = 5
 
-CRATES = {
-    "sn_base": "byteorder",
-    "rv_decode": "sn_base",
-    "rv_core": "sn_base rv_decode byteorder",
-    "sn_flat": "rv_core rv_decode sn_base byteorder",
-    "elf_load": "sn_base bitflags byteorder thiserror",
-    "timed": "rv_decode rv_core sn_flat elf_load sn_base bitflags byteorder thiserror",
-}
+MENTIONED = "rv_decode rv_core sn_flat elf_load sn_base bitflags byteorder thiserror"
 
 HERE = """#![tactic(auto)]
 
@@ -140,18 +134,7 @@ def answer_of(command, folder):
 
 
 def time_here(folder, turns):
-    crates = Path(__file__).resolve().parent.parent / "crates"
-    for name in CRATES:
-        for part in ["src", "specs", "proofs"]:
-            if name == "timed":
-                (folder / "crates" / name / part).mkdir(parents=True)
-            else:
-                shutil.copytree(crates / name / part, folder / "crates" / name / part)
-    timed = folder / "crates" / "timed"
-    (timed / "src" / "main.rt").write_text(filled(HERE, turns))
-    for part in ["specs", "proofs"]:
-        (timed / part / "Lib.antt").write_text("")
-    (folder / "crates.txt").write_text("".join(f"{name}: {needs}\n" for name, needs in CRATES.items()))
+    timed = with_program(folder, "timed", MENTIONED, {"src/main.rt": filled(HERE, turns)})
     return answer_of(["rt", "run"], timed)
 
 

@@ -30,8 +30,8 @@ from dataclasses import dataclass
 from pathlib import Path
 from statistics import median
 
-from bodies import ROOT, below, needs_of
 from looks_program import PROGRAM
+from small_repository import ROOT, below, listed, needs_of, write_program
 
 TURNS = 1_000_000
 LEAST_TURNS = 100_000
@@ -63,24 +63,19 @@ def copy_crates(folder: Path, names: list[str]) -> None:
             shutil.copytree(ROOT / "crates" / name / "out" / "rlib", folder / "crates" / name / "out" / "rlib", copy_function=link_or_copy)
 
 
-def write_program(folder: Path) -> Path:
+def write_looks(folder: Path) -> Path:
     """Writes the program's crate beside the crates that it stands on, and returns its folder."""
-    needs = needs_of((ROOT / "crates.txt").read_text())
+    needs = needs_of(listed())
     lower = below(NAMES.split(), needs)
     copy_crates(folder, lower)
-    timed = folder / "crates" / "timed"
-    for name, text in {"src/main.rt": PROGRAM, "specs/Lib.antt": "", "proofs/Lib.antt": ""}.items():
-        (timed / name).parent.mkdir(parents=True, exist_ok=True)
-        (timed / name).write_text(text)
-    listed = "".join(f"{name}: {' '.join(needs[name])}\n" for name in lower)
-    (folder / "crates.txt").write_text(f"{listed}timed: {NAMES}\n")
+    timed = write_program(folder, "timed", NAMES, {"src/main.rt": PROGRAM}, lower, needs)
     (folder / "HANDLES").write_text((ROOT / "HANDLES").read_text())
     return timed
 
 
 def build(folder: Path) -> Path:
     """The program, proved and built in this folder."""
-    timed = write_program(folder)
+    timed = write_looks(folder)
     done = subprocess.run(["rt", "run"], cwd=timed, capture_output=True, text=True)
     program = timed / "out" / "timed"
     if not program.exists():

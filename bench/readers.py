@@ -16,7 +16,7 @@ import sys
 import tempfile
 from pathlib import Path
 
-from bodies import ROOT, below, copy_crates, needs_of
+from small_repository import below, listed, needs_of, with_program
 
 ITEMS = 1_000_000
 TURNS = 3
@@ -102,16 +102,10 @@ def measured(program, folder):
 
 def build_here(folder, program):
     """The program, over copies of the crates of this repository that it stands on."""
-    needs = needs_of((ROOT / "crates.txt").read_text())
+    needs = needs_of(listed())
     lower = below(NAMES.split(), needs)
     every = sorted({name for crate in lower for name in needs[crate]} | set(NAMES.split()))
-    copy_crates(folder, None, lower)
-    timed = folder / "crates" / "timed"
-    for name, text in {"src/main.rt": program, "specs/Lib.antt": "", "proofs/Lib.antt": ""}.items():
-        (timed / name).parent.mkdir(parents=True, exist_ok=True)
-        (timed / name).write_text(text)
-    listed = "".join(f"{name}: {' '.join(needs[name])}\n" for name in lower)
-    (folder / "crates.txt").write_text(f"{listed}timed: {' '.join(every)}\n")
+    timed = with_program(folder, "timed", " ".join(every), {"src/main.rt": program})
     done = subprocess.run(["rt", "run"], cwd=timed, capture_output=True, text=True)
     if not (timed / "out" / "timed").exists():
         sys.exit(f"nothing was built: {done.stdout[-2000:]}{done.stderr[-3000:]}")

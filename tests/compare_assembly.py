@@ -11,7 +11,6 @@ has to be on the path.
 """
 import random
 import re
-import shutil
 import subprocess
 import sys
 import tempfile
@@ -19,14 +18,10 @@ from pathlib import Path
 
 import compare_instructions as instructions
 
-CRATES = {
-    "sn_base": "byteorder",
-    "rv_decode": "sn_base",
-    "text_lines": "",
-    "rv_statement": "sn_base rv_decode",
-    "rv_asm": "sn_base rv_decode rv_statement text_lines itoa",
-    "reader": "rv_asm sn_base rv_decode rv_statement text_lines itoa byteorder",
-}
+sys.path.append(str(Path(__file__).resolve().parent.parent / "bench"))
+from small_repository import with_program  # noqa: E402
+
+MENTIONED = "rv_asm sn_base rv_decode rv_statement text_lines itoa byteorder"
 
 READER = """// A line is `dis` and words, or `asm` and bytes, all hexadecimal. It prints the words' lines, or the text's words or the cause
 // why there are none, and then `end`.
@@ -96,19 +91,7 @@ ODD_BYTES = b" \t,()#:.-_0x9aZ\n\r\xc3\x80"
 
 def build(folder):
     """A repository of the crates and the reader; gives the reader's folder."""
-    here = Path(__file__).resolve().parent.parent
-    for name in CRATES:
-        if name != "reader":
-            for part in ["src", "specs", "proofs"]:
-                shutil.copytree(here / "crates" / name / part, folder / "crates" / name / part)
-    reader = folder / "crates" / "reader"
-    for part in ["src", "specs", "proofs"]:
-        (reader / part).mkdir(parents=True)
-    (reader / "src" / "main.rt").write_text(READER)
-    for part in ["specs", "proofs"]:
-        (reader / part / "Lib.antt").write_text("")
-    (folder / "crates.txt").write_text("".join(f"{name}: {needs}\n" for name, needs in CRATES.items()))
-    return reader
+    return with_program(folder, "reader", MENTIONED, {"src/main.rt": READER})
 
 
 def read(reader, lines):

@@ -11,19 +11,15 @@ copied into a folder of their own, beside a small program that prints what they 
 """
 import random
 import re
-import shutil
 import subprocess
 import sys
 import tempfile
 from pathlib import Path
 
-CRATES = {
-    "sn_base": "byteorder",
-    "rv_decode": "sn_base",
-    "rv_core": "sn_base rv_decode byteorder",
-    "sn_flat": "rv_core rv_decode sn_base byteorder",
-    "reader": "rv_decode rv_core sn_flat sn_base byteorder",
-}
+sys.path.append(str(Path(__file__).resolve().parent.parent / "bench"))
+from small_repository import with_program  # noqa: E402
+
+MENTIONED = "rv_decode rv_core sn_flat sn_base byteorder"
 
 READER = """// Of each line of words it prints each word's instruction, with the word that is written of it; of a line that begins with
 // `run` it prints how many steps the program does and the core after it has ended.
@@ -113,19 +109,7 @@ ATOMICS = ["amoswap", "amoadd", "amoxor", "amoand", "amoor", "amomin", "amomax",
 
 def build(folder):
     """A repository of the crates and the reader; gives the reader's folder."""
-    here = Path(__file__).resolve().parent.parent
-    for name in CRATES:
-        if name != "reader":
-            for part in ["src", "specs", "proofs"]:
-                shutil.copytree(here / "crates" / name / part, folder / "crates" / name / part)
-    reader = folder / "crates" / "reader"
-    for part in ["src", "specs", "proofs"]:
-        (reader / part).mkdir(parents=True)
-    (reader / "src" / "main.rt").write_text(READER)
-    for part in ["specs", "proofs"]:
-        (reader / part / "Lib.antt").write_text("")
-    (folder / "crates.txt").write_text("".join(f"{name}: {needs}\n" for name, needs in CRATES.items()))
-    return reader
+    return with_program(folder, "reader", MENTIONED, {"src/main.rt": READER})
 
 
 def read(reader, lines):

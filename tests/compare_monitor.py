@@ -7,13 +7,11 @@ PROGRAM is the built program, or the script `safetynet` at the top of the reposi
 program on 1 to 16 nodes with random seeds, losses and dying switches. Status, console and summary must be the simulator's, and so
 must the last `seen` line, which both end in; those before it must be among all that the simulator publishes, with growing points.
 """
-import random
 import sys
-import tempfile
 from pathlib import Path
 
 from compare_replay import hexadecimal_image, program
-from compare_runs import ENDS, call, rules, sizes
+from compare_runs import ENDS, call, compared, rules, sizes
 
 
 def parts(report):
@@ -58,16 +56,7 @@ def main():
     command, simulator = ([str(Path(name).resolve())] for name in sys.argv[1:3])
     count = int(sys.argv[3]) if len(sys.argv) > 3 else 100
     seed = sys.argv[4] if len(sys.argv) > 4 else "1"
-    failed, ends = 0, {}
-    with tempfile.TemporaryDirectory() as folder:
-        for case in range(count):
-            wrong, end = differences(command, simulator, random.Random(f"{seed} {case}"), folder)
-            ends[end] = ends.get(end, 0) + 1
-            failed += bool(wrong)
-            for line in wrong:
-                print(f"run {case}: {line}")
-    print(f"{count} runs, {failed} of them wrong; " + ", ".join(f"{number} {end}" for end, number in sorted(ends.items())))
-    return 1 if failed else 0
+    return compared(differences, command, simulator, count, seed)
 
 
 if __name__ == "__main__":

@@ -225,8 +225,9 @@ def watched(choose):
     return choose.choice([f"{address:08x}", f"{address:08X}"])
 
 
-def run(command, words, folder):
-    done = subprocess.run([*command, "replay", *words], cwd=folder, capture_output=True)
+def run(command, words, folder, name="replay"):
+    """What a command of a program comes to, with these words."""
+    done = subprocess.run([*command, name, *words], cwd=folder, capture_output=True)
     return without_reason((done.returncode, done.stdout, done.stderr))
 
 

@@ -14,10 +14,8 @@ import random
 import sys
 import tempfile
 from pathlib import Path
-import subprocess
 
 import compare_replay
-from outcomes import without_reason
 
 # The most control messages in flight.
 MOST_MESSAGES = 64
@@ -116,11 +114,6 @@ def words(choose, nodes):
     return sum(parts, [])
 
 
-def run(command, words, folder):
-    done = subprocess.run([*command, "roll", *words], cwd=folder, capture_output=True)
-    return without_reason((done.returncode, done.stdout, done.stderr))
-
-
 def main():
     if len(sys.argv) < 3:
         print(__doc__)
@@ -144,7 +137,7 @@ def main():
             if choose.random() < 0.05:
                 Path(folder, "program").write_bytes(compare_replay.spoiled(choose, file))
             given = words(choose, nodes)
-            found, expected = run([built], given, folder), run([simulator, "--main", "--probe"], given, folder)
+            found, expected = (compare_replay.run(it, given, folder, "roll") for it in ([built], [simulator, "--main", "--probe"]))
             if found != expected:
                 print(f"case {case}, {' '.join(given)}: {found} and not {expected}")
                 print(Path(folder, "program").read_bytes(), script, text)

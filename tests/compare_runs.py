@@ -89,14 +89,8 @@ def differences(command, simulator, choose, folder):
     return wrong, ENDS[status]
 
 
-def main():
-    if len(sys.argv) < 2:
-        print(__doc__)
-        return 2
-    command = [str(Path(sys.argv[1]).resolve())]
-    count = int(sys.argv[2]) if len(sys.argv) > 2 else 100
-    seed = sys.argv[3] if len(sys.argv) > 3 else "1"
-    simulator = str(Path(sys.argv[4]).resolve()) if len(sys.argv) > 4 else None
+def compared(differences, command, simulator, count, seed):
+    """Compares so many runs, each drawn from the seed and its number; says what differs and how they ended, and gives the status."""
     failed, ends = 0, {}
     with tempfile.TemporaryDirectory() as folder:
         for case in range(count):
@@ -107,6 +101,17 @@ def main():
                 print(f"run {case}: {line}")
     print(f"{count} runs, {failed} of them wrong; " + ", ".join(f"{number} {end}" for end, number in sorted(ends.items())))
     return 1 if failed else 0
+
+
+def main():
+    if len(sys.argv) < 2:
+        print(__doc__)
+        return 2
+    command = [str(Path(sys.argv[1]).resolve())]
+    count = int(sys.argv[2]) if len(sys.argv) > 2 else 100
+    seed = sys.argv[3] if len(sys.argv) > 3 else "1"
+    simulator = str(Path(sys.argv[4]).resolve()) if len(sys.argv) > 4 else None
+    return compared(differences, command, simulator, count, seed)
 
 
 if __name__ == "__main__":
