@@ -18,20 +18,25 @@ import sys
 import time
 from collections import defaultdict
 from pathlib import Path
+from typing import Callable, DefaultDict, Dict, List, Optional, Sequence, TextIO, Tuple
 
 TICKS = os.sysconf("SC_CLK_TCK")
 KINDS = ["proof", "tests", "seed", "edit"]
+# A process's parent, and its processor seconds.
+Stat = Tuple[int, float]
+# A check's crate, its kind, and the edit that it tries.
+Check = Tuple[str, str, str]
 
 
-def stat_of(process):
+def stat_of(process: str) -> Stat:
     """Its parent and its processor seconds, with those of the children that it has waited for."""
     fields = Path(f"/proc/{process}/stat").read_text().rsplit(")", 1)[1].split()
     return int(fields[1]), sum(map(int, fields[11:15])) / TICKS
 
 
-def descendants(top):
+def descendants(top: int) -> Dict[int, Stat]:
     """The living processes below one: their parents, and their processor seconds."""
-    found = {}
+    found: Dict[int, Stat] = {}
     for name in os.listdir("/proc"):
         if name.isdigit():
             try:
@@ -45,7 +50,7 @@ def descendants(top):
     return {it: found[it] for it in below - {top} if it in found}
 
 
-def what_is(process, top):
+def what_is(process: int, top: int) -> Optional[Check]:
     """The crate and the kind of a check, and the edit that it tries, or None where the process is none. The command works where top is."""
     words = Path(f"/proc/{process}/cmdline").read_bytes().decode(errors="replace").split("\0")
     if not words[0].endswith("/rattle") or "--crate-name" not in words:
@@ -57,7 +62,7 @@ def what_is(process, top):
     return (crate, "seed", "-") if over.endswith("/seed") else (crate, "edit", edit_in(Path(f"/proc/{top}/cwd/crates", crate), folder))
 
 
-def edit_in(crate, folder):
+def edit_in(crate: Path, folder: str) -> str:
     """The name of the edit whose new lines stand in this folder's files, and its old ones don't; `crate` is the crate as it was."""
     for edit in sorted((crate / "must-fail").glob("*.edit")):
         text = edit.read_text()
@@ -73,9 +78,9 @@ def edit_in(crate, folder):
     return "?"
 
 
-def checks_among(now, top):
+def checks_among(now: Dict[int, Stat], top: int) -> Dict[int, Check]:
     """Of the processes below a command, those that are checks of their own: a check's helpers have its words too."""
-    found = {}
+    found: Dict[int, Check] = {}
     for it, (parent, _) in now.items():
         with contextlib.suppress(OSError, IndexError):
             what = what_is(it, top)
@@ -84,14 +89,14 @@ def checks_among(now, top):
     return found
 
 
-def used_by(process, now):
+def used_by(process: int, now: Dict[int, Stat]) -> float:
     """Its processor seconds, with those of all that lives below it."""
     return now[process][1] + sum(used_by(it, now) for it, (parent, _) in now.items() if parent == process)
 
 
-def watch(top, log, has_ended):
+def watch(top: int, log: TextIO, has_ended: Callable[[], bool]) -> None:
     """Writes a line for each check below a process as it ends: crate, kind, edit, processor seconds, seconds."""
-    known = {}
+    known: Dict[int, Tuple[Check, float, float, float]] = {}
     while True:
         ended = has_ended()
         now = {} if ended else descendants(top)
@@ -103,18 +108,20 @@ def watch(top, log, has_ended):
             return
         for it, what in checks_among(now, top).items():
             # a helper that was just waited for counts in neither look
-            what, begun, _, used = known.get(it, (what, time.time(), 0, 0))
+            what, begun, _, used = known.get(it, (what, time.time(), 0.0, 0.0))
             known[it] = what, begun, time.time(), max(used, used_by(it, now))
         time.sleep(1)
 
 
-def minutes(seconds):
+def minutes(seconds: float) -> str:
+    """Seconds as minutes."""
     return f"{seconds / 60:.1f}"
 
 
-def table(lines):
+def table(lines: Sequence[List[str]]) -> None:
     """The rows of docs/MEASURES.md: dearest crates first, and the sum."""
-    used, edits = defaultdict(lambda: defaultdict(float)), defaultdict(int)
+    used: DefaultDict[str, DefaultDict[str, float]] = defaultdict(lambda: defaultdict(float))
+    edits: DefaultDict[str, int] = defaultdict(int)
     for crate, kind, _, seconds, _ in lines:
         used[crate][kind] += float(seconds)
         edits[crate] += kind == "edit"
@@ -127,13 +134,15 @@ def table(lines):
     print(f"| all | {' | '.join(minutes(it) + ' min' for it in sums)} | {sum(it for *_, it in rows)} | {minutes(sum(sums))} min |")
 
 
-def dearest(lines, least):
+def dearest(lines: Sequence[List[str]], least: float) -> None:
+    """The edits that cost so much and more, the dearest first."""
     for crate, _, edit, seconds, _ in sorted((it for it in lines if it[1] == "edit"), key=lambda it: -float(it[3])):
         if float(seconds) >= least:
             print(f"{float(seconds):6.1f} s  {crate}/{edit}")
 
 
-def main(words):
+def main(words: List[str]) -> None:
+    """Does what the words say."""
     if not words or words[0].startswith("-"):
         sys.exit(__doc__)
     path, rest = words[0], words[1:]

@@ -23,6 +23,12 @@ ends_alike() {
 }
 is_so "the end is that of a replay" ends_alike
 
+session() {
+  printf '%s\n' 'step 0' 'stepp 0' validate 'core 0' flights 'due 0 7' 'back 1' mark | "$SAFETYNET" drive --nodes 1 examples/first/a.hex 2>"$work/report" >"$work/console"
+  diff <(sed -n '/^So the program of examples\/first on one node/,/^\*\*What a watcher saw/s/^    //p' docs/FORMATS.md) <(head -n 8 "$work/report")
+}
+is_so "the session on that page is so" session
+
 # With --states each event has its line, between the first line and the last.
 states() {
   "$SAFETYNET" replay --nodes 2 --states $count "$work/script" 2>"$work/replayed" &&

@@ -15,6 +15,7 @@ import sys
 import time
 from pathlib import Path
 from types import SimpleNamespace
+from typing import List, Sequence
 
 KIT = Path(__file__).resolve().parent.parent
 FAILS = os.environ["FAILS"]
@@ -36,44 +37,57 @@ exit 7
 """
 
 
-def told(*words):
+def told(*words: str) -> None:
+    """Notes a call."""
     with open(os.environ["CALLS"], "a") as calls:
         print(*words, file=calls)
 
 
-def wait_for_an_answer():
+def wait_for_an_answer() -> None:
     """Until the call has said on standard error whether there is an answer, where there is to be one first; at most half a minute."""
     latest = time.monotonic() + 30
     while Path(f"{FAILS}.first").exists() and "before the proof" not in (KIT / "err").read_text() and time.monotonic() < latest:
         time.sleep(0.02)
 
 
-def text_in(folder):
+def text_in(folder: str) -> str:
+    """All code of a crate."""
     return "".join(it.read_text() for it in Path(folder, "src").iterdir())
 
 
-def sum_of(text, formats):
+def sum_of(text: str, formats: Sequence[str]) -> str:
+    """What a crate's product is known by."""
     return hashlib.sha256(repr((text, formats)).encode()).hexdigest()
 
 
-def handles_of(root):
+def handles_of(root: str) -> str:
+    """What HANDLES allows."""
     return Path(root, "HANDLES").read_text().split()[2].rstrip(".")
 
 
 class Crate:
-    def __init__(self, folder, root, known):
+    """A crate, as rt's own file has it."""
+
+    # what is allowed, which build.py sets, and where the library stands
+    allowed = ""
+    rlib = ""
+
+    def __init__(self, folder: str, root: str, known: dict) -> None:
         self.folder, self.name, self.is_program = folder, Path(folder).name, folder.endswith("_program")
         rows = [it.split() for it in Path(root, "crates.txt").read_text().splitlines()]
         uses = next(it[1:] for it in rows if it[0] == f"{self.name}:")
         self.deps = [Crate(f"{root}/crates/{it}", root, known) for it in uses if Path(root, "crates", it).is_dir()]
 
-    def below(self):
+    def below(self) -> "List[Crate]":
+        """The crates below it, along each path."""
         return [it for dep in self.deps for it in [*dep.below(), dep]]
 
-    def words(self, flags, keeps=True):
+    def words(self, flags: List[str], keeps: bool = True) -> List[str]:
+        """The words of a check."""
         return ["--incremental", "out", *flags] if keeps else flags
 
-    def prove(self, words):
+    def prove(self, words: List[str]) -> int:
+        """Proves it, or doesn't."""
         told(self.name, *words)
         wait_for_an_answer()
         if Path(f"{FAILS}.hang.{self.name}").exists():
@@ -92,7 +106,8 @@ class Crate:
             Path(self.rlib, "format").write_text(sum_of(text, [Path(it.rlib, "format").read_text() for it in self.below()]))
         return 0
 
-    def link(self, made, program):
+    def link(self, made: str, program: str) -> int:
+        """Writes the program."""
         told(self.name, made, program)
         low = next(Path(it.rlib, "text").read_text().strip() for it in self.below() if it.name == "low")
         Path(self.folder, program).write_text(PROGRAM.replace("LOW", low))
@@ -101,16 +116,21 @@ class Crate:
 
 
 class Kept:
-    def __init__(self, crates):
+    """What earlier runs of the gate proved."""
+
+    def __init__(self, crates: List[Crate]) -> None:
         self.formats = {}
 
-    def is_built(self, crate):
+    def is_built(self, crate: Crate) -> None:
+        """Takes note of a library that stands there."""
         self.formats[crate.name] = Path(crate.folder, "out/rlib", f"{crate.name}.rlib/format").read_text()
 
-    def key(self, crate):
+    def key(self, crate: Crate) -> str:
+        """The sum of all that a crate's proof reads."""
         return sum_of(text_in(crate.folder), [self.formats[it.name] for it in crate.below()])
 
-    def give(self, crate, tests, key):
+    def give(self, crate: Crate, tests: bool, key: str) -> bool:
+        """Gives what was proved of the same, if there is such."""
         kept = STORE / f"proof-{crate.name}-{key}"
         if kept.is_dir():
             shutil.copytree(kept, f"{crate.folder}/out/rlib/{crate.name}.rlib")
