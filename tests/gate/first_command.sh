@@ -418,7 +418,11 @@ nobody_tries() { # nor does anybody soon
 ended_by() { # signal, the file, words..
   local signal=$1 file=$2 caller
   shift 2
-  (cd "$repo" && PATH=$work/bin:$PATH exec env --default-signal=HUP,INT ./safetynet "$@") >"$work/out" 2>"$work/err" &
+  # a shell's own job in the background ignores some of them
+  (cd "$repo" && PATH=$work/bin:$PATH exec python3 -c 'import os, signal, sys
+for it in (signal.SIGHUP, signal.SIGINT):
+    signal.signal(it, signal.SIG_DFL)
+os.execv("./safetynet", sys.argv)' "$@") >"$work/out" 2>"$work/err" &
   caller=$!
   for _ in {1..600}; do
     [ -s "$file" ] && break
