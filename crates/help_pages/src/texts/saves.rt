@@ -2,7 +2,9 @@
 
 pub const SAVE: &str = "\
 Applies the events of a script, and writes the machine's recovery point as a
-text from which `resume` goes on. What is newer than the point isn't in it.
+text from which `resume` goes on. What is newer than the point isn't in it. To
+save what `resume` has come to, join both scripts with a line `recover` between
+them, and save the whole.
 
 usage: safetynet save [OPTIONS] PROGRAM SCRIPT
 
@@ -49,7 +51,8 @@ options, before or after the files, at most once, as --watch A or --watch=A:
   --watch ADDRESS  also show the word at ADDRESS wherever cores are shown: eight
                    hexadecimal digits, 80000000 to 803ffffc, a multiple of 4
 
-The number of nodes and the other sizes are the save file's.
+The number of nodes and the other sizes are the save file's, and the messages
+that are sent have numbers from its NEXT on (help save).
 
 reads:
   PROGRAM  an ELF file or a text of words, at most 16 MiB (help formats)

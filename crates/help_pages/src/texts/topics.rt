@@ -53,13 +53,14 @@ a line (help judge). TRACE: one instruction a line, in the order of execution:
 REPORT: a group for each event, and then the summary:
 
     5 report 0: reported 1
-      msg 3 ready 0 0 0 1
+      msg 1 ready 0 0 1 1
 
   An event's line has its place, the event and the answer. A message that it
-  sent has its number, kind, sender, receiver, tag and block, and the fields of
-  its kind. After a recovery each core has a line `core N PC END` with the
-  registers that aren't 0. The summary has the number of events, the recovery
-  point, the lengths of committed trace and output, and each core there.
+  sent has its number, kind, sender, receiver, tag (its sender's interval) and
+  block (of a ready or an advance, a checkpoint), and the fields of its kind.
+  After a recovery each core has a line `core N PC END` with the registers that
+  aren't 0. The summary has the number of events, the recovery point, the
+  lengths of committed trace and output, and each core there.
   Behind it --statistics has lines `stat NAME VALUE`, `stat NODE NAME VALUE`
   and one for each recovery; docs/FORMATS.md says what each name counts.
 
