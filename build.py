@@ -505,8 +505,10 @@ def written_from(under: Under) -> Tuple[List[str], List[str]]:
 def sum_of_text(parts: Iterable[str]) -> str:
     """A sum of these files, and of those in these folders, with their names: as `./safetynet` takes it, by sha256sum of the sums of all."""
     found = [file for it in parts for file in [HERE / it, *(HERE / it).rglob("*")] if not file.is_dir() or file.is_symlink()]
-    lines = [b"%s  %s\n" % (hashlib.sha256(it.read_bytes()).hexdigest().encode(), os.fsencode(it.relative_to(HERE))) for it in found]
-    return hashlib.sha256(b"".join(sorted(lines, key=lambda it: it[66:]))).hexdigest()
+    lines: List[bytes] = [b"%s  %s\n" % (hashlib.sha256(it.read_bytes()).hexdigest().encode(), os.fsencode(it.relative_to(HERE))) for it in found]
+    # by the names, which stand behind the 64 digits of a sum
+    lines.sort(key=lambda it: it[66:])
+    return hashlib.sha256(b"".join(lines)).hexdigest()
 
 
 def was_touched(parts: Iterable[str], begun: int) -> bool:
@@ -558,7 +560,10 @@ def build_and_run(program: str, folder: str, how: Optional[str] = None, *words: 
     """Builds the program, and then runs it if there is a word that says how; gives the status."""
     end_by_signals()
     to, first = Path(folder), FirstAnswer(program, [*words]) if how == "both" else None
-    meanwhile: Callable[[], object] = functools.partial(first.look, lambda: MINUTES_FROM_NOTHING) if first else bool
+
+    def meanwhile() -> object:
+        return first.look(lambda: MINUTES_FROM_NOTHING) if first else None
+
     try:
         with locked(folder_of(program), meanwhile) as lock:
             to.mkdir(exist_ok=True)

@@ -145,7 +145,6 @@ is_shown "each spoiled file is refused for its cause, and each good one gone on 
 is_shown "runs that are saved and resumed are runs in one piece" python3 tests/resumed_runs.py "$SAFETYNET" 12 gate
 
 if has mypy "checking the types of what spoils and resumes"; then
-  mypy_says() { mypy --strict --no-error-summary --cache-dir "$work/mypy" "$@"; }
   is_so "mypy has nothing to say of them" mypy_says tests/spoiled_saves.py tests/resumed_runs.py
 fi
 if has shellcheck "looking through this script"; then

@@ -15,7 +15,7 @@ import sys
 import time
 from pathlib import Path
 from types import SimpleNamespace
-from typing import List, Sequence
+from typing import Dict, List, Sequence
 
 KIT = Path(__file__).resolve().parent.parent
 FAILS = os.environ["FAILS"]
@@ -72,7 +72,7 @@ class Crate:
     allowed = ""
     rlib = ""
 
-    def __init__(self, folder: str, root: str, known: dict) -> None:
+    def __init__(self, folder: str, root: str, known: Dict[str, object]) -> None:
         self.folder, self.name, self.is_program = folder, Path(folder).name, folder.endswith("_program")
         rows = [it.split() for it in Path(root, "crates.txt").read_text().splitlines()]
         uses = next(it[1:] for it in rows if it[0] == f"{self.name}:")
@@ -119,7 +119,7 @@ class Kept:
     """What earlier runs of the gate proved."""
 
     def __init__(self, crates: List[Crate]) -> None:
-        self.formats = {}
+        self.formats: Dict[str, str] = {}
 
     def is_built(self, crate: Crate) -> None:
         """Takes note of a library that stands there."""
@@ -145,8 +145,8 @@ elif __name__ == "__main__" and sys.argv[1] == "version":
     print((KIT / "WHAT").read_text().strip())
 elif __name__ == "__main__":
     told(*sys.argv[1:])
-    words, how = sys.argv[sys.argv.index("--") + 1 :], Path(f"{FAILS}.try")
-    how = how.read_text() if how.exists() else ""
+    words, asked = sys.argv[sys.argv.index("--") + 1 :], Path(f"{FAILS}.try")
+    how = asked.read_text() if asked.exists() else ""
     low = Path("../low/src/lib.rt").read_text().strip()
     if how == "none":
         print("part of it", end="")
