@@ -69,10 +69,9 @@ fn main(rt: HostRuntime) -> io::Result<()> {
 NAMES = "rv_asm rv_statement text_lines rv_decode sn_base itoa byteorder"
 
 
-def main():
+def main() -> None:
     with tempfile.TemporaryDirectory() as folder:
-        folder = Path(folder)
-        timed = with_program(folder, "timed", NAMES, {"src/main.rt": PROGRAM})
+        timed = with_program(Path(folder), "timed", NAMES, {"src/main.rt": PROGRAM})
         done = subprocess.run(["rt", "run"], cwd=timed, capture_output=True, text=True)
     rows = re.findall(r"^timed (\w+) (\d+) (\d+) (\d+)$", done.stdout, re.MULTILINE)
     if not rows:

@@ -10,14 +10,18 @@ that may go, and a replacement (a line is dropped, a miss begins, and its answer
 call, before and after; there is none where a call came to something else than it should.
 """
 import re
-import shutil
 import subprocess
 import sys
 import tempfile
 from pathlib import Path
+from typing import Dict, List, Optional, Tuple
 
-ROOT = Path(__file__).resolve().parent.parent
-SIZES = [(1, 1), (4, 2), (64, 4), (256, 4), (256, 16)]
+from small_repository import listed, needs_of, with_program
+
+Size = Tuple[int, int]
+
+# The sets and ways of the caches.
+SIZES: List[Size] = [(1, 1), (4, 2), (64, 4), (256, 4), (256, 16)]
 KINDS = ["hit", "full", "least", "replace"]
 
 PROGRAM = """#![tactic(auto)]
@@ -158,34 +162,15 @@ TIMES
 """
 
 
-def needs_of(table):
-    """Each crate's dependencies, by a crates.txt."""
-    rows = [line.split(":") for line in table.splitlines() if ":" in line and not line.startswith("#")]
-    return {name.split()[0]: needs.split() for name, needs in rows}
-
-
-def program_text(calls):
+def program_text(calls: int) -> str:
     times = [f"    time(&rt, {sets}, {ways}, {sets * ways})?;" for sets, ways in SIZES]
     return re.sub("CALLS|TIMES", lambda found: {"CALLS": str(calls), "TIMES": "\n".join(times)}[found[0]], PROGRAM)
 
 
-def times_of(folder, source, calls):
-    """The time of a call of each kind, for each size, over the crates of this source."""
-    needs = needs_of((source / "crates.txt").read_text())
-    wanted = ["mosi_cache", *needs["mosi_cache"]]
-    ours = [name for name in wanted if name in needs]
-    for name in ours:
-        for part in ["src", "specs", "proofs"]:
-            if (source / "crates" / name / part).is_dir():
-                shutil.copytree(source / "crates" / name / part, folder / "crates" / name / part)
-    timed = folder / "crates" / "timed"
-    for part in ["src", "specs", "proofs"]:
-        (timed / part).mkdir(parents=True)
-    (timed / "src" / "main.rt").write_text(program_text(calls))
-    for part in ["specs", "proofs"]:
-        (timed / part / "Lib.antt").write_text("")
-    rows = [f"{name}: {' '.join(needs[name])}" for name in ours] + [f"timed: {' '.join(wanted)}"]
-    (folder / "crates.txt").write_text("\n".join(rows) + "\n")
+def times_of(folder: Path, revision: Optional[str], calls: int) -> Dict[Size, List[float]]:
+    """The time of a call of each kind, for each size, over the crates as they stand in the revision or, with none, here."""
+    mentioned = ["mosi_cache", *needs_of(listed(revision))["mosi_cache"]]
+    timed = with_program(folder, "timed", " ".join(mentioned), {"src/main.rt": program_text(calls)}, revision)
     done = subprocess.run(["rt", "run"], cwd=timed, capture_output=True, text=True)
     found = re.findall(r"^timed (.*)\nstamps (.*)$", done.stdout, re.MULTILINE)
     if len(found) != len(SIZES):
@@ -193,7 +178,8 @@ def times_of(folder, source, calls):
     return {size: times_in(counts, stamps, calls) for size, (counts, stamps) in zip(SIZES, found)}
 
 
-def times_in(counts, stamps, calls):
+def times_in(counts: str, stamps: str, calls: int) -> List[float]:
+    """The nanoseconds of a call of each kind, of the two lines that the program prints of a cache."""
     sets, ways, lines, *done = (int(word) for word in counts.split())
     if lines != sets * ways or done != [calls] * len(KINDS):
         sys.exit(f"not every call came to what it should: {counts}")
@@ -201,14 +187,12 @@ def times_in(counts, stamps, calls):
     return [(end - start) / calls for start, end in zip(at, at[1:])]
 
 
-def main():
+def main() -> None:
     if len(sys.argv) not in (2, 3):
         sys.exit(__doc__)
     calls = int(sys.argv[2]) if len(sys.argv) == 3 else 100_000
-    with tempfile.TemporaryDirectory() as old, tempfile.TemporaryDirectory() as before, tempfile.TemporaryDirectory() as after:
-        packed = subprocess.run(["git", "archive", sys.argv[1], "crates", "crates.txt"], cwd=ROOT, check=True, capture_output=True)
-        subprocess.run(["tar", "-x"], cwd=old, check=True, input=packed.stdout)
-        was, now = times_of(Path(before), Path(old), calls), times_of(Path(after), ROOT, calls)
+    with tempfile.TemporaryDirectory() as before, tempfile.TemporaryDirectory() as after:
+        was, now = times_of(Path(before), sys.argv[1], calls), times_of(Path(after), None, calls)
     print(f"{'sets x ways':12}" + "".join(f"{kind:>22}" for kind in KINDS))
     for sets, ways in SIZES:
         pairs = [f"{a:.0f} -> {b:.0f} ns" for a, b in zip(was[(sets, ways)], now[(sets, ways)])]

@@ -14,10 +14,11 @@ import subprocess
 import sys
 import tempfile
 from pathlib import Path
+from typing import Tuple
 
 sys.path.insert(0, str(Path(__file__).resolve().parent))
-import flat
-from small_repository import with_program
+import flat  # noqa: E402
+from small_repository import with_program  # noqa: E402
 
 MENTIONED = "trace_check sn_base sn_io rv_core rv_decode sn_consistency projection_places byteorder rayon"
 
@@ -105,44 +106,44 @@ fn main() {
 """
 
 
-def made_here(folder, turns):
+def made_here(folder: Path, turns: int) -> Path:
     timed = with_program(folder, "timed", MENTIONED, {"src/main.rt": flat.filled(HERE, turns)})
     flat.answer_of(["rt", "run"], timed)
     return timed / "out" / "timed"
 
 
-def made_there(folder, turns, source):
+def made_there(folder: Path, turns: int, source: str) -> Path:
     (folder / "there.rs").write_text(flat.filled(THERE, turns, str(Path(source).resolve())))
     subprocess.run(["rustc", "--edition", "2021", "-C", "opt-level=3", "there.rs"], cwd=folder, check=True, stderr=subprocess.DEVNULL)
     return folder / "there"
 
 
-def best_of(program, processors, folder):
-    """The least time of twenty runs on so many processors."""
+def best_of(program: Path, processors: int, folder: Path) -> Tuple[int, int]:
+    """The least time of twenty runs on so many processors, and how many records were legal."""
     pin = ["taskset", "-c", "0" if processors == 1 else f"0-{processors - 1}"]
     return min(flat.answer_of([*pin, str(program)], folder) for _ in range(20))
 
 
-def peak_of(program):
+def peak_of(program: Path) -> int:
     """The most memory that a run had, in KiB."""
     with subprocess.Popen([str(program)], stdout=subprocess.DEVNULL) as run:
-        return os.wait4(run.pid, 0)[2].ru_maxrss
+        return int(os.wait4(run.pid, 0)[2].ru_maxrss)
 
 
-def main():
+def main() -> None:
     if len(sys.argv) not in (2, 3):
         sys.exit(__doc__)
     turns = int(sys.argv[2]) if len(sys.argv) == 3 else 20_833
     wanted = (turns * len(flat.LOOP) + len(flat.SETUP)) * flat.NODES
-    with tempfile.TemporaryDirectory() as folder:
-        folder = Path(folder)
+    with tempfile.TemporaryDirectory() as name:
+        folder = Path(name)
         there, here = made_there(folder, turns, sys.argv[1]), made_here(folder, turns)
         rows = [("simulator, one processor", there, 1), ("here, one processor", here, 1), ("here, four processors", here, 4)]
-        for name, program, processors in rows:
+        for label, program, processors in rows:
             milliseconds, legal = best_of(program, processors, folder)
             if legal != wanted:
-                sys.exit(f"{name}: the trace was refused")
-            print(f"{name:26} {wanted} records, {milliseconds} ms")
+                sys.exit(f"{label}: the trace was refused")
+            print(f"{label:26} {wanted} records, {milliseconds} ms")
         print(f"peak memory of a run {peak_of(here) * 1024 / wanted:.0f} bytes a record")
 
 

@@ -14,6 +14,7 @@ import subprocess
 import sys
 import tempfile
 from pathlib import Path
+from typing import Dict, List, Tuple
 
 from small_repository import with_program
 
@@ -110,9 +111,14 @@ fn main() {
 """
 
 
-def filled(text, turns, source=""):
-    row = lambda seen, done: f"({seen}, {'true' if done else 'false'})"
-    values = {
+def row(seen: int, done: bool) -> str:
+    """What an instruction sees, and whether it is done, as both programs' languages write it."""
+    return f"({seen}, {'true' if done else 'false'})"
+
+
+def filled(text: str, turns: int, source: str = "") -> str:
+    """A program's text with the loop, its records and the numbers in it."""
+    values: Dict[str, str] = {
         "WORDS": ", ".join("0x" + word for word in SETUP + LOOP),
         "SETUP": ", ".join(row(0, False) for _ in SETUP),
         "TURNS": str(turns),
@@ -124,7 +130,7 @@ def filled(text, turns, source=""):
     return re.sub("WORDS|SETUP|TURNS|TURN|NODES|TEXT|SOURCE", lambda found: values[found[0]], text)
 
 
-def answer_of(command, folder):
+def answer_of(command: List[str], folder: Path) -> Tuple[int, int]:
     """What the program prints: the milliseconds of all turns, and how many steps were legal."""
     done = subprocess.run(command, cwd=folder, capture_output=True, text=True)
     line = re.search(r"^timed (\d+) (\d+)$", done.stdout, re.MULTILINE)
@@ -133,24 +139,24 @@ def answer_of(command, folder):
     return int(line[1]), int(line[2])
 
 
-def time_here(folder, turns):
+def time_here(folder: Path, turns: int) -> Tuple[int, int]:
     timed = with_program(folder, "timed", MENTIONED, {"src/main.rt": filled(HERE, turns)})
     return answer_of(["rt", "run"], timed)
 
 
-def time_there(folder, turns, source):
+def time_there(folder: Path, turns: int, source: str) -> Tuple[int, int]:
     (folder / "timed.rs").write_text(filled(THERE, turns, str(Path(source).resolve())))
     subprocess.run(["rustc", "--edition", "2021", "-C", "opt-level=3", "timed.rs"], cwd=folder, check=True, stderr=subprocess.DEVNULL)
     return answer_of([str(folder / "timed")], folder)
 
 
-def main():
+def main() -> None:
     if len(sys.argv) not in (2, 3):
         sys.exit(__doc__)
     turns = int(sys.argv[2]) if len(sys.argv) == 3 else 500_000
     steps = turns * len(LOOP) * NODES
-    with tempfile.TemporaryDirectory() as folder:
-        folder = Path(folder)
+    with tempfile.TemporaryDirectory() as room:
+        folder = Path(room)
         there, here = time_there(folder, turns, sys.argv[1]), time_here(folder, turns)
     for name, (milliseconds, legal) in [("simulator", there), ("here", here)]:
         if legal != steps + len(SETUP) * NODES:

@@ -10,11 +10,12 @@ import subprocess
 import sys
 import tempfile
 import time
+from typing import List
 
 COUNTER = "800012b7\n00100313\n0062a3af\n03f3f513\n03050513\n00100893\n00000073\nfedff06f\n"
 
 
-def least_time(command, folder):
+def least_time(command: List[str], folder: str) -> float:
     """The least of three times of a command, in seconds."""
     times = []
     for _ in range(3):
@@ -25,14 +26,14 @@ def least_time(command, folder):
     return min(times)
 
 
-def generated(simulator, folder, events):
-    """A program that counts for ever, and events for it on four nodes that the simulator generates."""
+def generated(simulator: str, folder: str, events: int) -> None:
+    """Writes a program that counts for ever, and events for it on four nodes that the simulator generates."""
     command = [simulator, "gen", str(events), "four.hex", "four.script"]
     subprocess.run(command, cwd=folder, capture_output=True, check=True)
 
 
-def run_on(simulator, folder, nodes, events):
-    """The journal of the simulator's own run on so many nodes, as a script."""
+def run_on(simulator: str, folder: str, nodes: int, events: int) -> int:
+    """Writes the journal of the simulator's own run on so many nodes as a script; how many events it has."""
     words = ["--interval", "20", "--wait", "2000", "--budget", str(events), "--journal"]
     made = subprocess.run(
         [simulator, "run", "program.hex", "--nodes", str(nodes), *words], cwd=folder, capture_output=True, text=True
@@ -43,8 +44,8 @@ def run_on(simulator, folder, nodes, events):
     return len(lines)
 
 
-def in_flight(folder, messages, events, oldest):
-    """Reports up to so many messages in flight, and then one goes, the oldest or the newest, whenever one comes."""
+def in_flight(folder: str, messages: int, events: int, oldest: bool) -> int:
+    """Writes a script: reports up to so many messages in flight, and then one goes, the oldest or the newest, whenever one comes; how many events."""
     lines = ["report 0"] * messages
     last = messages
     gone = 0
@@ -57,13 +58,13 @@ def in_flight(folder, messages, events, oldest):
     return len(lines)
 
 
-def row(label, programs, folder, words, events):
+def row(label: str, programs: List[str], folder: str, words: List[str], events: int) -> None:
     """Measures one command by each program, and prints a row."""
     times = [least_time([program, "replay", *words], folder) / events * 1e9 for program in programs]
     print(f"| {label} | {events:,} | " + " | ".join(f"{one:,.0f}" for one in times) + " |", flush=True)
 
 
-def main():
+def main() -> int:
     if len(sys.argv) < 3:
         print(__doc__)
         return 2

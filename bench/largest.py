@@ -14,6 +14,7 @@ import sys
 import tempfile
 from itertools import islice, product
 from pathlib import Path
+from typing import Callable, Iterable, List, NamedTuple, Optional, Tuple, Union
 
 START = 0x80000000
 MEMORY_SIZE = 4 << 20
@@ -24,17 +25,18 @@ NOP, JUMP_BACK = 0x00000013, 0xFFDFF06F
 LETTER = [0x04100513, 0x00100893, 0x00000073, 0xFF5FF06F]
 
 
-def image(words):
+def image(words: List[int]) -> str:
+    """A hexadecimal image: a line of each word."""
     return "".join(f"{word:08x}\n" for word in words)
 
 
-def whole_memory_image():
+def whole_memory_image() -> bytes:
     """A word for each word of memory, and comments up to the limit of a program."""
     text = image([NOP] * (MEMORY_SIZE // 4 - 1) + [JUMP_BACK])
     return (text + "#" * (PROGRAM_LIMIT - len(text))).encode()
 
 
-def whole_memory_elf():
+def whole_memory_elf() -> bytes:
     """One segment over all of memory, and bytes after it up to the limit."""
     code = struct.pack("<I", NOP) * (MEMORY_SIZE // 4 - 1) + struct.pack("<I", JUMP_BACK)
     identity = bytes([0x7F, 0x45, 0x4C, 0x46, 1, 1, 1]) + bytes(9)
@@ -43,13 +45,13 @@ def whole_memory_elf():
     return (header + segment + code).ljust(PROGRAM_LIMIT, b"\0")
 
 
-def filled(lines):
+def filled(lines: Iterable[str]) -> bytes:
     """The lines, and one comment up to the limit of a script."""
     text = "".join(line + "\n" for line in lines)
     return (text + "#" * (SCRIPT_LIMIT - len(text))).encode()
 
 
-def largest_save():
+def largest_save() -> bytes:
     """As many records and bytes given as may be saved, and all blocks in the largest caches of 16 nodes."""
     lines = ["safetynet-save 1", "config 16 256 16 4096", "marks 1 1 3000000000"]
     lines += [f"owner {block} {block // 4096}" for block in range(65536)]
@@ -58,9 +60,10 @@ def largest_save():
     return "".join(f"{line}\n" for line in [*lines, "end"]).encode()
 
 
-def checkpoints(nodes):
+def checkpoints(nodes: int) -> List[str]:
     """Steps of all nodes, and now and then a checkpoint that is validated: all of what waits is committed."""
-    lines, message = [], 1
+    lines: List[str] = []
+    message = 1
     while len(lines) < EVENT_LIMIT - 200:
         lines += [f"step {node}" for node in range(nodes) for _ in range(16)]
         lines += [f"edge {node}" for node in range(nodes)]
@@ -82,27 +85,30 @@ def checkpoints(nodes):
 STORES = [0x80400337, 0x800012B7, 0x00651393, 0x007282B3, 0x00A2A023, 0x40028293, 0xFE62ECE3, 0xFE9FF06F]
 
 
-def store_image():
+def store_image() -> bytes:
     """The words of that program, and comments up to the limit of a program."""
     text = image(STORES)
     return (text + "#" * (PROGRAM_LIMIT - len(text))).encode()
 
 
-def labels():
+def labels() -> bytes:
     """As many labels as fit the limit of a text, and no statement."""
     digits = string.digits + string.ascii_lowercase
     names = ("".join(name) for name in product(string.ascii_lowercase, *[digits] * 4))
     return b"".join(f"{name}:\n".encode() for name in islice(names, PROGRAM_LIMIT // 7))
 
 
-def long_statements():
+def long_statements() -> bytes:
     """As many statements as there are words of memory, each of so many letters that they come to the limit of a text."""
     return b"addi a0, a0, -1\n" * WORD_LIMIT
 
 
 LARGE = ["--nodes", "16", "--sets", "256", "--ways", "16", "--log", "4096"]
 
-RUNS = [
+Make = Optional[Callable[[], bytes]]
+
+# What is run: its name, the words, and what makes the files `a` and `b`.
+RUNS: List[Tuple[str, List[str], Make, Make]] = [
     ("replay, 1,000,000 steps of 16 nodes with the largest caches and logs, a program of 16 MiB", ["replay", *LARGE, "a", "b"],
      whole_memory_image, lambda: filled(f"step {place % 16}" for place in range(EVENT_LIMIT))),
     ("the same with an ELF file, and the trace", ["replay", *LARGE, "--trace", "a", "b"],
@@ -144,19 +150,29 @@ print(os.waitstatus_to_exitcode(status), time.monotonic() - begin, used.ru_maxrs
 """
 
 
-def run(program, words, folder, stack=0):
-    """Status, seconds, MiB, and the end of what was reported."""
+class Found(NamedTuple):
+    """What a run came to, and what it took."""
+
+    status: int
+    seconds: float
+    mebibytes: float
+    end: bytes
+
+
+def run(program: str, words: List[str], folder: str, stack: int = 0) -> Found:
+    """A run with so many bytes of stack, or without a limit; its end is that of what was reported."""
     done = subprocess.run([sys.executable, "-c", LAUNCH, str(stack), program, *words], cwd=folder, capture_output=True, check=True)
     status, seconds, memory = done.stdout.split()
-    return int(status), float(seconds), float(memory), Path(folder, "report").read_bytes()[-200:]
+    return Found(int(status), float(seconds), float(memory), Path(folder, "report").read_bytes()[-200:])
 
 
-def told(words, found):
+def told(words: List[str], found: Found) -> Union[int, Tuple[int, bytes]]:
     """What of a run counts that was done again: its status, and the end of its report where that is the same each time."""
-    return found[0] if words[0] == "run" else found[::3]
+    return found.status if words[0] == "run" else (found.status, found.end)
 
 
-def least_stack(program, words, folder, expected):
+def least_stack(program: str, words: List[str], folder: str, expected: Union[int, Tuple[int, bytes]]) -> str:
+    """The least limit under which the run is told as it is expected."""
     stack = 64 << 10
     while told(words, run(program, words, folder, stack)) != expected:
         stack *= 2
@@ -165,7 +181,7 @@ def least_stack(program, words, folder, expected):
     return f"{stack >> 10} KiB"
 
 
-def main():
+def main() -> int:
     if len(sys.argv) != 2:
         print(__doc__)
         return 2
@@ -177,9 +193,8 @@ def main():
                 if make:
                     Path(folder, file).write_bytes(make())
             found = run(program, words, folder)
-            status, seconds, memory, _ = found
             stack = least_stack(program, words, folder, told(words, found))
-            print(f"| {name} | {status} | {seconds:.2f} s | {memory:.0f} MiB | {stack} |", flush=True)
+            print(f"| {name} | {found.status} | {found.seconds:.2f} s | {found.mebibytes:.0f} MiB | {stack} |", flush=True)
     return 0
 
 

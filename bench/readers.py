@@ -15,6 +15,7 @@ import subprocess
 import sys
 import tempfile
 from pathlib import Path
+from typing import Iterator, Tuple
 
 from small_repository import below, listed, needs_of, with_program
 
@@ -75,14 +76,16 @@ fn main() {
 NAMES = "sn_text sn_io rv_core sn_base byteorder itoa"
 
 
-def trace():
+def trace() -> Iterator[str]:
+    """The lines of random records."""
     for _ in range(ITEMS):
         core, seen, done = random.randrange(16), random.choice([0, random.getrandbits(32)]), random.randrange(2)
         read = random.choice(["", "", "", f" {random.randrange(256):02x}"])
         yield f"{core} {seen:08x} {done}{read}\n"
 
 
-def script():
+def script() -> Iterator[str]:
+    """The lines of random events."""
     for _ in range(ITEMS):
         node, number = random.randrange(16), random.randrange(10_000_000)
         yield random.choice([
@@ -90,9 +93,10 @@ def script():
             f"kill {random.choice('ab')}{node}", f"report {node}", "validate", "recover", f"input {node} {random.randrange(256):02x}"]) + "\n"
 
 
-def measured(program, folder):
+def measured(program: Path, folder: Path) -> Tuple[float, float]:
     """The milliseconds that the program prints, how many items it read, and the most memory that it took, in MiB."""
     process = subprocess.Popen([str(program)], cwd=folder, stdout=subprocess.PIPE, text=True)
+    assert process.stdout
     line = re.match(r"timed (\d+) (\d+)$", process.stdout.read().strip())
     _, _, usage = os.wait4(process.pid, 0)
     if line is None or int(line[2]) != ITEMS:
@@ -100,7 +104,7 @@ def measured(program, folder):
     return int(line[1]) / 1e6, usage.ru_maxrss / 1024
 
 
-def build_here(folder, program):
+def build_here(folder: Path, program: str) -> Path:
     """The program, over copies of the crates of this repository that it stands on."""
     needs = needs_of(listed())
     lower = below(NAMES.split(), needs)
@@ -112,19 +116,19 @@ def build_here(folder, program):
     return timed / "out" / "timed"
 
 
-def build_there(folder, program, source):
+def build_there(folder: Path, program: str, source: str) -> Path:
     """The program, over the simulator's source."""
     (folder / "timed.rs").write_text((MODS + program).replace("SOURCE", str(Path(source).resolve())))
     subprocess.run(["rustc", "--edition", "2021", "-C", "opt-level=3", "timed.rs"], cwd=folder, check=True, stderr=subprocess.DEVNULL)
     return folder / "timed"
 
 
-def main():
+def main() -> None:
     if len(sys.argv) != 2:
         sys.exit(__doc__)
     random.seed(1)
-    with tempfile.TemporaryDirectory() as folder:
-        folder = Path(folder)
+    with tempfile.TemporaryDirectory() as room:
+        folder = Path(room)
         programs = {"simulator": build_there(folder, THERE, sys.argv[1]), "here": build_here(folder, HERE)}
         for kind, lines in [("trace", trace()), ("script", script())]:
             with open(folder / "text", "w") as text:

@@ -13,11 +13,12 @@ import sys
 import tempfile
 import time
 from pathlib import Path
+from typing import List, Tuple
 
 WORDS = "800012b7 00100313 0062a3af 03f3f513 03050513 00100893 00000073 fedff06f"
 
 
-def taken(words):
+def taken(words: List[str]) -> Tuple[float, int]:
     """Returns the seconds that a command took, and its peak memory in bytes."""
     start = time.monotonic()
     child = subprocess.Popen(words, stdout=subprocess.DEVNULL, stderr=subprocess.DEVNULL)
@@ -26,11 +27,15 @@ def taken(words):
     return time.monotonic() - start, used.ru_maxrss * 1024
 
 
-def least(words):
+def least(words: List[str]) -> float:
+    """The least of five times of a command, in milliseconds."""
     return min(taken(words)[0] for _ in range(5)) * 1000
 
 
-def main():
+def main() -> int:
+    if len(sys.argv) < 3:
+        print(__doc__)
+        return 2
     program, simulator = sys.argv[1:3]
     turns = int(sys.argv[3]) if len(sys.argv) > 3 else 1_000_000
     print("nodes  losses  program ms  simulator ms  ratio  bytes a turn")
@@ -44,6 +49,8 @@ def main():
                 most, few = (taken([program, *words, str(it)])[1] for it in (turns, 1000))
                 share = (most - few) / (turns - 1000)
                 print(f"{nodes:5}  {losses:6}  {here:10.0f}  {there:12.0f}  {here / there:5.2f}  {share:12.1f}")
+    return 0
 
 
-main()
+if __name__ == "__main__":
+    sys.exit(main())
