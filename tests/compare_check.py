@@ -17,18 +17,19 @@ import sys
 import tempfile
 from collections import Counter
 from pathlib import Path
+from typing import List
 
 sys.path.insert(0, str(Path(__file__).resolve().parent))
-from compare_replay import hexadecimal_image, program
-from outcomes import without_reason
-from served_program import ServedProgram, built_server
+from compare_replay import hexadecimal_image, program  # noqa: E402
+from outcomes import without_reason  # noqa: E402
+from served_program import ServedProgram, built_server  # noqa: E402
 
 # How many traces are judged of one run, and how many seconds one may take.
 OF_A_RUN = 20
 SECONDS = 20
 
 
-def trace(choose, simulator, nodes, folder):
+def trace(choose: random.Random, simulator: str, nodes: int, folder: str) -> List[str]:
     """The committed trace of a run, and the summary in comments."""
     options = ["--nodes", nodes, "--seed", choose.randrange(10**6), "--budget", choose.randrange(50, 2500), "--interval", choose.choice([1, 3, 10]),
                "--wait", choose.choice([100, 400]), "--lose-every", choose.choice([0, 0, 13, 60])]
@@ -36,16 +37,17 @@ def trace(choose, simulator, nodes, folder):
     return subprocess.run(command, cwd=folder, capture_output=True).stderr.decode().splitlines()
 
 
-def is_record(line):
+def is_record(line: str) -> bool:
     return line[:1].isdigit()
 
 
-def with_field(line, place, field):
+def with_field(line: str, place: int, field: str) -> str:
+    """A record with another word in this place."""
     fields = line.split(" ")
     return " ".join(fields[:place] + [field] + fields[place + 1:])
 
 
-def spoiled_record(choose, line, nodes):
+def spoiled_record(choose: random.Random, line: str, nodes: int) -> str:
     """A record of the same form that says something else."""
     fields = line.split(" ")
     kind = choose.choice(["seen", "seen", "done", "core", "byte"])
@@ -61,7 +63,8 @@ def spoiled_record(choose, line, nodes):
     return with_field(line, 3, byte) if len(fields) == 4 and choose.random() < 0.5 else " ".join(fields[:3] + [byte] * (len(fields) == 3))
 
 
-def spoiled(choose, lines, nodes):
+def spoiled(choose: random.Random, lines: List[str], nodes: int) -> List[str]:
+    """The lines of a trace with one thing wrong, in most cases."""
     records = [place for place, line in enumerate(lines) if is_record(line)]
     if not records:
         return lines
@@ -81,11 +84,13 @@ def spoiled(choose, lines, nodes):
     return lines
 
 
-def wrong_line(choose, nodes):
+def wrong_line(choose: random.Random, nodes: int) -> str:
+    """A line that is no record of so many nodes."""
     return choose.choice([f"{nodes} 00000000 0", "0 0000000 0", "0 00000000 2", "0 0000000A 0", "00 00000000 0", "0 00000000 0 4", " 0 00000000 0", "fly"])
 
 
-def text_of(choose, lines, nodes):
+def text_of(choose: random.Random, lines: List[str], nodes: int) -> str:
+    """What is judged of these lines: spoiled in no place, one or a few, and with either end of a line."""
     for _ in range(choose.choice([0, 1, 1, 1, 2, 4])):
         lines = spoiled(choose, lines, nodes)
     if choose.random() < 0.03:
@@ -96,19 +101,20 @@ def text_of(choose, lines, nodes):
     return choose.choice([text, text, text.rstrip()])
 
 
-def judged(choose, nodes):
+def judged(choose: random.Random, nodes: int) -> List[str]:
     """How many nodes the trace is judged for: in most cases those of the run."""
     count = nodes if choose.random() < 0.95 else choose.randrange(1, 17)
     return choose.choice([["--nodes", str(count)], [f"--nodes={count}"]])
 
 
-def main():
+def main() -> int:
     if len(sys.argv) < 3:
         print(__doc__)
         return 2
     built, simulator = (str(Path(name).resolve()) for name in sys.argv[1:3])
     count, seed = int(sys.argv[3]) if len(sys.argv) > 3 else 20_000, sys.argv[4] if len(sys.argv) > 4 else "1"
-    statuses, records = Counter(), 0
+    statuses: Counter[int] = Counter()
+    records = 0
     with tempfile.TemporaryDirectory() as folder:
         library = built_server(folder)
         judge, other = ServedProgram(library, built, [], folder, SECONDS), ServedProgram(library, simulator, ["--main"], folder, SECONDS)

@@ -15,7 +15,7 @@ from collections import Counter
 from pathlib import Path
 
 sys.path.insert(0, str(Path(__file__).resolve().parent.parent / "bench"))
-import readers
+import readers  # noqa: E402
 
 HERE = """#![tactic(auto)]
 
@@ -108,24 +108,28 @@ fn main() {
 ODD = "0123456789abfAFg x#+-\r\n\t\0"
 
 
-def record():
+def record() -> str:
+    """A record of a trace, of five nodes where there are four."""
     read = random.choice(["", "", f" {random.randrange(256):02x}"])
     return f"{random.randrange(5)} {random.getrandbits(32):08x} {random.randrange(2)}{read}"
 
 
-def event():
+def event() -> str:
+    """An event of a script, some of whose numbers are too great."""
     node, message = random.randrange(5), random.choice([0, 5, 2**64 - 1, 2**64])
     return random.choice([
         f"step {node}", f"evict {node} {random.choice([0, 65535, 65536])}", f"edge {node}", f"hop {message}", f"deliver {message}",
         f"lose {message}", f"kill {random.choice('abc')}{node}", f"report {node}", "validate", "recover", f"input {node} {random.randrange(256):02x}"])
 
 
-def spoiled(text):
+def spoiled(text: str) -> str:
+    """A text with a byte more, less or changed, or as it was."""
     place, byte = random.randrange(len(text) + 1), random.choice(ODD)
     return random.choice([text[:place] + byte + text[place:], text[:place] + text[place + 1:], text[:place] + byte + text[place + 1:], text])
 
 
-def text():
+def text() -> str:
+    """A few lines of a script or of a trace, most with something wrong."""
     item = random.choice([record, event])
     lines = [random.choice(["", "# " + item(), item(), item(), item()]) for _ in range(random.randrange(5))]
     whole = "".join(line + random.choice(["\n", "\n", "\n", "\r\n"]) for line in lines)
@@ -136,13 +140,13 @@ def text():
     return whole
 
 
-def main():
+def main() -> None:
     if len(sys.argv) not in (2, 3, 4):
         sys.exit(__doc__)
     count = int(sys.argv[2]) if len(sys.argv) > 2 else 200_000
     random.seed(int(sys.argv[3]) if len(sys.argv) > 3 else 1)
-    with tempfile.TemporaryDirectory() as folder:
-        folder = Path(folder)
+    with tempfile.TemporaryDirectory() as room:
+        folder = Path(room)
         (folder / "text").write_bytes(b"\xff".join(text().encode() for _ in range(count)))
         programs = [readers.build_there(folder, THERE, sys.argv[1]), readers.build_here(folder, HERE)]
         there, here = [subprocess.run([str(program)], cwd=folder, capture_output=True, text=True).stdout for program in programs]

@@ -20,6 +20,7 @@ import subprocess
 import sys
 import tempfile
 from pathlib import Path
+from typing import Dict, List, Sequence, Tuple, Union
 
 from outcomes import without_reason
 
@@ -40,37 +41,44 @@ ATOMIC_KINDS = [0, 1, 4, 8, 12, 16, 20, 24, 28]
 
 LOAD_RESERVED, STORE_CONDITIONAL = 2, 3
 
+# An option's value.
+Value = Union[int, str]
 
-def lui(rd, upper):
+# Options whose values are out of their range.
+WRONG: List[Tuple[str, Value]] = [("nodes", 0), ("nodes", 17), ("sets", 0), ("sets", 257), ("ways", 17), ("log", 3), ("log", 4097),
+                                  ("watch", "80000001"), ("watch", "80400000"), ("watch", "8000000"), ("nodes", "4x")]
+
+
+def lui(rd: int, upper: int) -> int:
     return upper << 12 | rd << 7 | 0x37
 
 
-def addi(rd, rs1, immediate):
+def addi(rd: int, rs1: int, immediate: int) -> int:
     return (immediate & 0xFFF) << 20 | rs1 << 15 | rd << 7 | 0x13
 
 
-def load(kind, rd, rs1, offset):
+def load(kind: int, rd: int, rs1: int, offset: int) -> int:
     return (offset & 0xFFF) << 20 | rs1 << 15 | kind << 12 | rd << 7 | 0x03
 
 
-def store(kind, rs2, rs1, offset):
+def store(kind: int, rs2: int, rs1: int, offset: int) -> int:
     return (offset >> 5 & 0x7F) << 25 | rs2 << 20 | rs1 << 15 | kind << 12 | (offset & 0x1F) << 7 | 0x23
 
 
-def atomic(kind, rd, rs1, rs2):
+def atomic(kind: int, rd: int, rs1: int, rs2: int) -> int:
     return kind << 27 | rs2 << 20 | rs1 << 15 | 2 << 12 | rd << 7 | 0x2F
 
 
-def branch(kind, rs1, rs2, offset):
+def branch(kind: int, rs1: int, rs2: int, offset: int) -> int:
     high = (offset >> 12 & 1) << 31 | (offset >> 5 & 0x3F) << 25
     return high | rs2 << 20 | rs1 << 15 | kind << 12 | (offset >> 1 & 0xF) << 8 | (offset >> 11 & 1) << 7 | 0x63
 
 
-def jal(rd, offset):
+def jal(rd: int, offset: int) -> int:
     return (offset >> 20 & 1) << 31 | (offset >> 1 & 0x3FF) << 21 | (offset >> 11 & 1) << 20 | (offset >> 12 & 0xFF) << 12 | rd << 7 | 0x6F
 
 
-def instruction(choose, place):
+def instruction(choose: random.Random, place: int) -> int:
     """One word at random. x5 to x9 hold addresses of one set's blocks, x11 to x14 values."""
     base, value, into = choose.randrange(5, 10), choose.choice([10, 11, 12, 13, 14]), choose.randrange(11, 15)
     kind = choose.choices(["load", "store", "atomic", "reserve", "conditional", "add", "move", "call", "branch", "back"],
@@ -98,16 +106,17 @@ def instruction(choose, place):
     return choose.choice([jal(0, -4 * choose.randrange(0, min(place, 12) + 1)), choose.randrange(2**32)])
 
 
-def program(choose):
+def program(choose: random.Random) -> List[int]:
+    """The words of a program at random, which never ends by itself but jumps back to its begin."""
     words = [lui(base, 0x80001 + choose.randrange(8)) for base in range(5, 10)] + [addi(17, 0, choose.choice([1, 1, 2]))]
     for _ in range(choose.randrange(4, 40)):
         words.append(instruction(choose, len(words)))
     return words + [jal(0, -4 * len(words))]
 
 
-def hexadecimal_image(choose, words):
+def hexadecimal_image(choose: random.Random, words: Sequence[int]) -> bytes:
     """Lines of words in either case and with either end, comments between them, and sometimes no end at the last."""
-    lines = []
+    lines: List[str] = []
     for word in words:
         lines += choose.choice([[], [], [], ["# a word"], [""]])
         lines.append(choose.choice([f"{word:08x}", f"{word:08X}"]))
@@ -115,7 +124,7 @@ def hexadecimal_image(choose, words):
     return choose.choice([text, text, text.rstrip()]).encode()
 
 
-def elf_file(choose, words):
+def elf_file(choose: random.Random, words: Sequence[int]) -> bytes:
     """A file header, program headers of the kinds attributes and LOAD, and the code."""
     code = struct.pack(f"<{len(words)}I", *words)
     identity = bytes([0x7F, 0x45, 0x4C, 0x46, 1, 1, 1]) + bytes(9)
@@ -125,7 +134,8 @@ def elf_file(choose, words):
     return header + attributes + struct.pack("<8I", 1, CODE, START, START, len(code), size, 5, 4096) + code
 
 
-def spoiled(choose, file):
+def spoiled(choose: random.Random, file: bytes) -> bytes:
+    """A file that is cut, or has a byte changed."""
     place = choose.randrange(len(file))
     if choose.random() < 0.5:
         return file[:place]
@@ -133,7 +143,7 @@ def spoiled(choose, file):
     return file[:place] + bytes([choose.randrange(256)]) + file[place + 1:]
 
 
-def event(choose, nodes, sent):
+def event(choose: random.Random, nodes: int, sent: int) -> str:
     """An event at random, most of whose numbers are near those that are there."""
     node = choose.randrange(nodes)
     message = choose.randrange(max(0, sent - 6), sent + 2) if choose.random() < 0.9 else choose.choice([0, 10**6, 2**64 - 1])
@@ -150,7 +160,7 @@ def event(choose, nodes, sent):
     return kind if kind in ("validate", "recover") else f"{kind} {node}"
 
 
-def journal(choose, simulator, nodes, folder):
+def journal(choose: random.Random, simulator: str, nodes: int, folder: Union[str, Path]) -> List[str]:
     """The journal of a run: each event is due, so that much is done in few events."""
     options = ["--nodes", nodes, "--seed", choose.randrange(10**6), "--budget", choose.randrange(20, 1500),
                "--interval", choose.choice([1, 3, 10, 40]), "--wait", choose.choice([100, 400, 2000]),
@@ -162,9 +172,9 @@ def journal(choose, simulator, nodes, folder):
     return done.stderr.decode().splitlines()
 
 
-def disturbed(choose, lines, nodes):
+def disturbed(choose: random.Random, lines: Sequence[str], nodes: int) -> List[str]:
     """Lines left out and doubled, and others between them."""
-    result = []
+    result: List[str] = []
     for place, line in enumerate(lines):
         draw = choose.random()
         if draw > 0.01:
@@ -176,12 +186,14 @@ def disturbed(choose, lines, nodes):
     return result
 
 
-def wrong_line(choose, nodes):
+def wrong_line(choose: random.Random, nodes: int) -> str:
+    """A line that is no event of so many nodes."""
     return choose.choice([f"step {nodes}", f"kill a{nodes}", "evict 0 65536", "step 00", "Step 0", " step 0", "step 0 ", "step", "hop",
                           "deliver 18446744073709551616", "input 0 5", "input 0 5A", "kill c0", "evict 0", "fly", "\t", "validate 0"])
 
 
-def script(choose, simulator, nodes, folder):
+def script(choose: random.Random, simulator: str, nodes: int, folder: Union[str, Path]) -> str:
+    """A script at random for the program that stands in the folder."""
     kind = choose.choices(["journal", "disturbed", "random", "full"], [40, 35, 20, 5])[0]
     if kind == "full":
         lines = ["report 0"] * (NET_LIMIT - choose.randrange(0, 4)) + [event(choose, nodes, NET_LIMIT) for _ in range(60)]
@@ -197,41 +209,50 @@ def script(choose, simulator, nodes, folder):
     return choose.choice([text, text, text.rstrip()])
 
 
-def words(choose, nodes):
+def sizes(choose: random.Random) -> Dict[str, Value]:
+    """Some of the sizes of a machine and, now and then, a watched word."""
+    every: List[Tuple[str, Value]] = [
+        ("sets", choose.choice([1, 2, 4, 16, 256])), ("ways", choose.choice([1, 2, 4, 16])),
+        ("log", choose.choice([4, 5, 8, 64, 4096])), ("watch", watched(choose)),
+    ]
+    return {name: value for name, value in every if choose.random() < 0.6}
+
+
+def options(choose: random.Random, values: Dict[str, Value]) -> List[List[str]]:
+    """The words of each option, in one of its two forms."""
+    return [choose.choice([[f"--{name}", str(value)], [f"--{name}={value}"]]) for name, value in values.items()]
+
+
+def words(choose: random.Random, nodes: int) -> List[str]:
     """The words after `replay`: both files and the options, each in one of its two forms."""
-    values = {"nodes": nodes}
-    flags = []
+    values: Dict[str, Value] = {"nodes": nodes}
+    flags: List[str] = []
     if choose.random() < 0.5:
-        values |= {name: value for name, value in [
-            ("sets", choose.choice([1, 2, 4, 16, 256])), ("ways", choose.choice([1, 2, 4, 16])),
-            ("log", choose.choice([4, 5, 8, 64, 4096])), ("watch", watched(choose)),
-        ] if choose.random() < 0.6}
+        values |= sizes(choose)
         flags = ["--trace"] if choose.random() < 0.4 else []
         if choose.random() < 0.05:
-            name, value = choose.choice([("nodes", 0), ("nodes", 17), ("sets", 0), ("sets", 257), ("ways", 17), ("log", 3), ("log", 4097),
-                                         ("watch", "80000001"), ("watch", "80400000"), ("watch", "8000000"), ("nodes", "4x")])
+            name, value = choose.choice(WRONG)
             values[name] = value
-    options = [choose.choice([[f"--{name}", str(value)], [f"--{name}={value}"]]) for name, value in values.items()]
-    parts = options + [[flag] for flag in flags]
+    parts = options(choose, values) + [[flag] for flag in flags]
     choose.shuffle(parts)
     place = choose.randrange(len(parts) + 1)
     return sum(parts[:place], []) + ["program"] + sum(parts[place:], []) + ["events.script"]
 
 
-def watched(choose):
+def watched(choose: random.Random) -> str:
     """The address of a word that the programs share, of code, or of any other memory."""
     shared = 0x80001000 + 0x1000 * choose.randrange(8) + 4 * choose.randrange(16)
     address = choose.choice([shared, shared, shared, START, START + 4 * choose.randrange(2**20)])
     return choose.choice([f"{address:08x}", f"{address:08X}"])
 
 
-def run(command, words, folder, name="replay"):
+def run(command: Sequence[str], words: Sequence[str], folder: Union[str, Path], name: str = "replay") -> Tuple[int, bytes, bytes]:
     """What a command of a program comes to, with these words."""
     done = subprocess.run([*command, name, *words], cwd=folder, capture_output=True)
     return without_reason((done.returncode, done.stdout, done.stderr))
 
 
-def main():
+def main() -> int:
     if len(sys.argv) < 3:
         print(__doc__)
         return 2

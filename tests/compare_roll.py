@@ -14,16 +14,23 @@ import random
 import sys
 import tempfile
 from pathlib import Path
+from typing import Dict, List, Set, Tuple
 
 import compare_replay
+
+# Options whose values are out of their range.
+WRONG: List[Tuple[str, compare_replay.Value]] = [("nodes", 0), ("nodes", 17), ("sets", 257), ("log", 3), ("watch", "80000001"), ("nodes", "4x")]
 
 # The most control messages in flight.
 MOST_MESSAGES = 64
 
 
-def led(choose, nodes):
+def led(choose: random.Random, nodes: int) -> List[str]:
     """Controls that lead a recovery to its end, most of them: a model of what is in flight, by number, and what was noted."""
-    lines, flights, noted, next_id, over = [], {}, set(), 1, 0
+    lines: List[str] = []
+    flights: Dict[int, Tuple[str, int]] = {}
+    noted: Set[int] = set()
+    next_id, over = 1, 0
     while over < 3 and len(lines) < 400:
         draw = choose.random()
         if flights and draw < 0.55:
@@ -60,7 +67,7 @@ def led(choose, nodes):
     return lines
 
 
-def control(choose, nodes, sent):
+def control(choose: random.Random, nodes: int, sent: int) -> str:
     """A control at random, most of whose numbers are near those that are in flight."""
     kind = choose.choices(["order", "repeat", "lose", "deliver", "finish"], [6, 3, 1, 6, 1])[0]
     if kind == "finish":
@@ -71,12 +78,14 @@ def control(choose, nodes, sent):
     return f"{kind} {near if choose.random() < 0.95 else choose.choice([0, 10**6, 2**64 - 1])}"
 
 
-def wrong_line(choose, nodes):
+def wrong_line(choose: random.Random, nodes: int) -> str:
+    """A line that is no control of so many nodes."""
     return choose.choice([f"order {nodes}", "order", "order 00", "Order 0", " order 0", "order 0 ", "repeat", "repeat 01", "lose -1", "finish 0",
                           "deliver 18446744073709551616", "deliver 1 2", "step 0", "finish ", "\t", "over"])
 
 
-def controls(choose, nodes):
+def controls(choose: random.Random, nodes: int) -> str:
+    """The text of a control file at random."""
     kind = choose.choices(["led", "random", "full", "none"], [55, 30, 10, 5])[0]
     if kind == "led":
         lines = led(choose, nodes)
@@ -96,25 +105,22 @@ def controls(choose, nodes):
     return choose.choice([text, text, text.rstrip()])
 
 
-def words(choose, nodes):
+def words(choose: random.Random, nodes: int) -> List[str]:
     """The words after `roll`: the three files and the options, each in one of its two forms."""
-    values = {"nodes": nodes}
+    values: Dict[str, compare_replay.Value] = {"nodes": nodes}
     if choose.random() < 0.5:
-        values |= {name: value for name, value in [
-            ("sets", choose.choice([1, 2, 4, 16, 256])), ("ways", choose.choice([1, 2, 4, 16])),
-            ("log", choose.choice([4, 5, 8, 64, 4096])), ("watch", compare_replay.watched(choose)),
-        ] if choose.random() < 0.6}
+        values |= compare_replay.sizes(choose)
         if choose.random() < 0.05:
-            name, value = choose.choice([("nodes", 0), ("nodes", 17), ("sets", 257), ("log", 3), ("watch", "80000001"), ("nodes", "4x")])
+            name, value = choose.choice(WRONG)
             values[name] = value
-    parts = [choose.choice([[f"--{name}", str(value)], [f"--{name}={value}"]]) for name, value in values.items()]
+    parts = compare_replay.options(choose, values)
     choose.shuffle(parts)
     for place, name in enumerate(["program", "events.script", "calls.control"]):
         parts.insert(choose.randrange(len(parts) + 1) if place == 0 else len(parts), [name])
     return sum(parts, [])
 
 
-def main():
+def main() -> int:
     if len(sys.argv) < 3:
         print(__doc__)
         return 2

@@ -13,43 +13,53 @@ import random
 import subprocess
 import sys
 import tempfile
+from functools import partial
 from pathlib import Path
+from typing import Callable, Dict, List, Optional, Sequence, Tuple, Union
 
 from compare_replay import hexadecimal_image, program
 from outcomes import without_reason
+
+# What is wrong with a run, and how it ended.
+Verdict = Tuple[List[str], str]
 
 # Status 0, and those of a budget that is spent, of nodes that are cut off and of a trap.
 ENDS = {0: "exited", 6: "budget", 8: "cut off", 10: "trapped"}
 
 
-def call(command, words, folder):
+def call(command: Sequence[str], words: Sequence[str], folder: Union[str, Path]) -> Tuple[int, bytes, List[str]]:
+    """Status, console and the report's lines of a call, without the line that says why."""
     done = subprocess.run([*command, *words], cwd=folder, capture_output=True)
     status, console, report = without_reason((done.returncode, done.stdout, done.stderr))
     return status, console, report.decode().splitlines()
 
 
-def sizes(choose, nodes):
-    words = ["--nodes", nodes]
+def sizes(choose: random.Random, nodes: int) -> List[str]:
+    """The options of a machine."""
+    words: List[Union[int, str]] = ["--nodes", nodes]
     for name, value in [("sets", choose.choice([1, 4, 16])), ("ways", choose.choice([1, 2, 4])), ("log", choose.choice([4, 16, 256]))]:
         words += [f"--{name}", value] if choose.random() < 0.3 else []
     return [str(word) for word in words]
 
 
-def rules(choose, nodes):
-    words = ["--seed", choose.randrange(2**64), "--budget", choose.randrange(1, 5000), "--interval", choose.choice([1, 3, 10, 40]),
+def rules(choose: random.Random, nodes: int) -> List[str]:
+    """The options of a run."""
+    words: List[Union[int, str]] = ["--seed", choose.randrange(2**64), "--budget", choose.randrange(1, 5000), "--interval", choose.choice([1, 3, 10, 40]),
              "--wait", choose.choice([100, 400, 2000]), "--lose-every", choose.choice([0, 0, 13, 60])]
     if choose.random() < 0.3:
         words += ["--kill", f"{choose.choice('ab')}{choose.randrange(nodes)}@{choose.randrange(300)}"]
     return [str(word) for word in words]
 
 
-def summary(lines):
+def summary(lines: Sequence[str]) -> List[str]:
     """The lines after the groups of a replay's report, without the line that names the status."""
     start = next(place for place, line in enumerate(lines) if line.startswith("events "))
     return [line for line in lines[start:] if not line.startswith("# safetynet: ")]
 
 
-def replay_differences(command, size, console, report, folder):
+def replay_differences(
+    command: Sequence[str], size: Sequence[str], console: bytes, report: Sequence[str], folder: Union[str, Path]
+) -> List[str]:
     """What a replay of a run's journal, which its report is, gives otherwise than the run did: console or summary. The program's file stands in the folder."""
     script = [line for line in report if not line.startswith("# safetynet: ")]
     Path(folder, "journal").write_text("".join(line + "\n" for line in script))
@@ -60,13 +70,13 @@ def replay_differences(command, size, console, report, folder):
     return [] if summary(replayed) == marked else ["the replay has another summary"]
 
 
-def differences(command, simulator, choose, folder):
+def differences(command: Sequence[str], simulator: Optional[str], choose: random.Random, folder: str) -> Verdict:
     """What is wrong with one run, and how it ended."""
     nodes = choose.choice([1, 2, 2, 3, 4, 4, 6, 8, 16, choose.randrange(1, 17)])
     Path(folder, "program").write_bytes(hexadecimal_image(choose, program(choose)))
     size, rule = sizes(choose, nodes), rules(choose, nodes)
     # the simulator that judges the journal knows no orders, and each of them gives a run like another
-    order = choose.choice([[], [], ["--order", "round"], ["--order", "drawn"]])
+    order: List[str] = choose.choice([[], [], ["--order", "round"], ["--order", "drawn"]])
     words = ["run", *size, *rule, *order]
     status, console, report = call(command, [*words, "--journal", "program"], folder)
     if status not in ENDS:
@@ -89,12 +99,13 @@ def differences(command, simulator, choose, folder):
     return wrong, ENDS[status]
 
 
-def compared(differences, command, simulator, count, seed):
+def compared(verdict: Callable[[random.Random, str], Verdict], count: int, seed: str) -> int:
     """Compares so many runs, each drawn from the seed and its number; says what differs and how they ended, and gives the status."""
-    failed, ends = 0, {}
+    failed = 0
+    ends: Dict[str, int] = {}
     with tempfile.TemporaryDirectory() as folder:
         for case in range(count):
-            wrong, end = differences(command, simulator, random.Random(f"{seed} {case}"), folder)
+            wrong, end = verdict(random.Random(f"{seed} {case}"), folder)
             ends[end] = ends.get(end, 0) + 1
             failed += bool(wrong)
             for line in wrong:
@@ -103,7 +114,7 @@ def compared(differences, command, simulator, count, seed):
     return 1 if failed else 0
 
 
-def main():
+def main() -> int:
     if len(sys.argv) < 2:
         print(__doc__)
         return 2
@@ -111,7 +122,7 @@ def main():
     count = int(sys.argv[2]) if len(sys.argv) > 2 else 100
     seed = sys.argv[3] if len(sys.argv) > 3 else "1"
     simulator = str(Path(sys.argv[4]).resolve()) if len(sys.argv) > 4 else None
-    return compared(differences, command, simulator, count, seed)
+    return compared(partial(differences, command, simulator), count, seed)
 
 
 if __name__ == "__main__":

@@ -1,24 +1,28 @@
 """What a call of the program comes to: its status, what it wrote to standard output, and what to standard error."""
 import re
+from typing import Optional, Tuple, TypeVar
+
+# A status: a number or, of a call that didn't end, none.
+Status = TypeVar("Status", bound=Optional[int])
 
 # The line that says why a call isn't done. The reference simulator has none.
 REASON = re.compile(rb"^# why: [^\n]*\n", re.MULTILINE)
 
 
-def without_reason(outcome):
+def without_reason(outcome: Tuple[Status, bytes, bytes]) -> Tuple[Status, bytes, bytes]:
     """The outcome, without the line that says why."""
     status, console, report = outcome
     return status, console, REASON.sub(b"", report)
 
 
-def seen_last(outcome):
+def seen_last(outcome: Tuple[Status, bytes, bytes]) -> Tuple[Status, bytes, bytes]:
     """The outcome of a run that was watched, with the last line alone of what was seen: which cuts are seen before it is left to the threads."""
     status, console, report = outcome
     seen = [line for line in report.splitlines(keepends=True) if line.startswith(b"seen ")]
     return status, console, b"".join(seen[-1:]) + report[sum(map(len, seen)):]
 
 
-def is_explained(outcome):
+def is_explained(outcome: Tuple[Optional[int], bytes, bytes]) -> bool:
     """Whether the report of a call that isn't done says why once, in the line above its last; that of another call never does."""
     status, _, report = outcome
     places = [place for place, line in enumerate(report.splitlines(keepends=True)) if REASON.fullmatch(line)]

@@ -6,11 +6,13 @@ import os
 import struct
 import subprocess
 from pathlib import Path
+from typing import List, Sequence, Tuple, Union
 
 SOURCE = Path(__file__).resolve().parent / "mutate_inputs" / "serve.c"
 
 
-def built_server(folder):
+def built_server(folder: Union[str, Path]) -> Path:
+    """The library, built in the folder."""
     library = Path(folder, "serve.so")
     subprocess.run(["cc", "-shared", "-fPIC", "-O1", "-o", library, SOURCE, "-ldl"], check=True)
     return library
@@ -19,7 +21,7 @@ def built_server(folder):
 class ServedProgram:
     """A program in a folder, where its runs find their files. `first` are the words that each run begins with."""
 
-    def __init__(self, library, program, first, folder, seconds):
+    def __init__(self, library: Path, program: str, first: Sequence[str], folder: Union[str, Path], seconds: int) -> None:
         self.first = [program, *first]
         words, self.words = os.pipe()
         self.answers, answers = os.pipe()
@@ -28,7 +30,7 @@ class ServedProgram:
         os.close(words)
         os.close(answers)
 
-    def run(self, words):
+    def run(self, words: Sequence[str]) -> Tuple[int, bytes, bytes]:
         """Status, standard output and standard error of a run; the status of one that a signal ended is the signal's number, less than 0."""
         text = b"".join(os.fsencode(word) + b"\0" for word in [*self.first, *words])
         message = struct.pack("i", len(text)) + text
@@ -37,8 +39,9 @@ class ServedProgram:
         ended, console, report = struct.unpack("3i", self.read(12))
         return os.waitstatus_to_exitcode(ended), self.read(console), self.read(report)
 
-    def read(self, size):
-        parts = []
+    def read(self, size: int) -> bytes:
+        """So many bytes of the answers."""
+        parts: List[bytes] = []
         while size:
             part = os.read(self.answers, size)
             if not part:
@@ -47,7 +50,7 @@ class ServedProgram:
             size -= len(part)
         return b"".join(parts)
 
-    def end(self):
+    def end(self) -> None:
         os.close(self.words)
         os.close(self.answers)
         self.process.wait()
