@@ -18,10 +18,17 @@ import sys
 import tempfile
 from itertools import product
 from pathlib import Path
+from typing import Dict, List, Optional, Tuple
 
 sys.path.insert(0, str(Path(__file__).resolve().parent))
 from compare_runs import ENDS, replay_differences  # noqa: E402
 from outcomes import seen_last, without_reason  # noqa: E402
+
+# What a run came to; one that doesn't end has no status.
+Found = Tuple[Optional[int], bytes, bytes]
+
+# A run's name, its words, and the files that they name.
+Row = Tuple[str, List[str], Dict[str, bytes]]
 
 HERE = Path(__file__).resolve().parent
 
@@ -42,7 +49,7 @@ SAVED = b"safetynet-save 1\nconfig 1 16 4 256\nmarks 1 3 7\n" + b"rec 0 00000000
 TEXT = b"start:\naddi a0, zero, 65\njal zero, start\n"
 
 
-def linked():
+def linked() -> bytes:
     """The program LETTER as a linker writes it: a header that is skipped, code, and data of which the file has the first half."""
     headers = [
         (0x70000003, 0, 0, 0, 0, 0, 4, 1),
@@ -55,7 +62,7 @@ def linked():
     return (first + table).ljust(0x1000, b"\0") + code.ljust(0x1000, b"\0") + bytes(4)
 
 
-RUNS = [
+RUNS: List[Row] = [
     ("replay", ["replay", "--nodes", "1", "a", "b"], {"a": LETTER, "b": SCRIPT}),
     ("replay of an ELF file", ["replay", "--nodes", "1", "a", "b"], {"a": linked(), "b": SCRIPT}),
     ("replay, two nodes and a recovery", ["replay", "--nodes", "2", "--watch", "80001000", "a", "b"], {"a": COUNTING, "b": RECOVERY}),
@@ -88,13 +95,14 @@ RUNS = [
 ]
 
 
-def built_library(folder):
+def built_library(folder: str) -> Path:
+    """The library that refuses, built in the folder."""
     library = Path(folder, "refuse.so")
     subprocess.run(["cc", "-shared", "-fPIC", "-O1", "-o", library, HERE / "refuse_memory" / "refuse.c", "-ldl"], check=True)
     return library
 
 
-def environment(folder, library, call, all_after):
+def environment(folder: str, library: Path, call: int, all_after: bool) -> Dict[str, str]:
     """The variables of a run in which the library refuses this call, counted from 1, or none."""
     given = {**os.environ, "LD_PRELOAD": str(library), "REFUSE_COUNT": str(Path(folder, "count")), "REFUSE_CALL": str(call)}
     if all_after:
@@ -102,7 +110,7 @@ def environment(folder, library, call, all_after):
     return given
 
 
-def read_count(folder):
+def read_count(folder: str) -> Optional[int]:
     """How often the last run asked for memory; None where that run left no count."""
     count = Path(folder, "count")
     made = int(count.read_text()) if count.exists() else None
@@ -110,7 +118,7 @@ def read_count(folder):
     return made
 
 
-def run(program, words, folder, library, call=0, all_after=False):
+def run(program: str, words: List[str], folder: str, library: Path, call: int = 0, all_after: bool = False) -> Tuple[Found, Optional[int]]:
     """Status, standard output and standard error, and how often memory was asked for; a run that doesn't end has no status."""
     given = environment(folder, library, call, all_after)
     try:
@@ -120,12 +128,12 @@ def run(program, words, folder, library, call=0, all_after=False):
     return without_reason((done.returncode, done.stdout, done.stderr)), read_count(folder)
 
 
-def is_want(found):
+def is_want(found: Found) -> bool:
     """Whether memory was lacking, and nothing was written."""
     return found in [(MEMORY_STATUS, b"", MEMORY_LINE), (MEMORY_STATUS, b"", b"")]
 
 
-def is_whole(program, words, folder, found, ample):
+def is_whole(program: str, words: List[str], folder: str, found: Found, ample: Found) -> bool:
     """Whether a run was as with all memory, or as it may be then where it has several workers."""
     if words[:2] != ["run", "--nodes"] or words[2] == "1":
         return seen_last(found) == seen_last(ample)
@@ -134,12 +142,15 @@ def is_whole(program, words, folder, found, ample):
     return status in ENDS and not replay_differences([program], shown, console, report.decode().splitlines(), folder)
 
 
-def refuse(program, row, folder, library, most):
+def refuse(program: str, row: Row, folder: str, library: Path, most: int) -> int:
     """How many runs of a row, with a call refused, were neither want of memory nor as with all; each is said."""
     name, words, files = row
     for file, content in files.items():
         Path(folder, file).write_bytes(content)
     ample, made = run(program, words, folder, library)
+    if made is None:
+        print(f"{name}: with all memory no count was left: {ample}")
+        return 1
     step = max(1, made // most) if most else 1
     wants = wholes = wrong = 0
     for call, all_after in product(range(1, made + 1, step), (False, True)):
@@ -155,7 +166,7 @@ def refuse(program, row, folder, library, most):
     return wrong
 
 
-def main():
+def main() -> int:
     if len(sys.argv) < 2:
         print(__doc__)
         return 2

@@ -17,6 +17,7 @@ import sys
 import tempfile
 from collections import Counter
 from pathlib import Path
+from typing import List, NamedTuple, Optional, Tuple
 
 sys.path.insert(0, str(Path(__file__).resolve().parent))
 from refuse_memory import built_library, environment, read_count  # noqa: E402
@@ -34,12 +35,14 @@ MEMORY_ERROR = re.compile(rb"[Ee]rror: .*\b(Memory|AllocError|AllocFailed|OutOfM
 IN_VAIN = b"waited in vain"
 
 
-def tests_of(program):
+def tests_of(program: Path) -> List[str]:
+    """The names of the tests."""
     listed = subprocess.run([program, "--list"], capture_output=True, text=True, check=True).stdout
     return [line.removesuffix(": test") for line in listed.splitlines() if line.endswith(": test")]
 
 
-def kind_of(status, said, lacks_thread):
+def kind_of(status: int, said: bytes, lacks_thread: bool) -> str:
+    """How a test ended, by its status and what it said."""
     if status == 0:
         return PASSED
     first = said.strip().splitlines()[0] if said.strip() else b""
@@ -48,27 +51,36 @@ def kind_of(status, said, lacks_thread):
     return ALONE if lacks_thread and IN_VAIN in said else WRONG
 
 
-def run(program, test, folder, library, call=0, all_after=False, most_threads=0):
-    """How a test ends, what it said, how often memory was asked for and how many threads began; with all memory so many begin."""
+class Ended(NamedTuple):
+    """How a test ended, what it said, how often memory was asked for, unless that isn't known, and how many threads began."""
+
+    kind: str
+    said: bytes
+    made: Optional[int]
+    threads: int
+
+
+def run(program: Path, test: str, folder: str, library: Path, call: int = 0, all_after: bool = False, most_threads: int = 0) -> Ended:
+    """A test whose call for memory of this number is refused, or none; with all memory so many threads begin."""
     threads = Path(folder, "threads")
     threads.write_bytes(b"")
     given = {**environment(folder, library, call, all_after), "REFUSE_THREADS": str(threads)}
     try:
         done = subprocess.run([program, test], cwd=folder, stdin=subprocess.DEVNULL, capture_output=True, env=given, timeout=LONGEST)
     except subprocess.TimeoutExpired:
-        return WRONG, b"it had not ended", None, 0
+        return Ended(WRONG, b"it had not ended", None, 0)
     begun = threads.stat().st_size
     kind = kind_of(done.returncode, done.stderr, begun < most_threads)
-    return kind, b"status %d: " % done.returncode + done.stderr, read_count(folder), begun
+    return Ended(kind, b"status %d: " % done.returncode + done.stderr, read_count(folder), begun)
 
 
-def refuse(program, test, folder, library, most):
+def refuse(program: Path, test: str, folder: str, library: Path, most: int) -> Tuple[int, Counter[str]]:
     """The number of a test's calls for memory, and how its runs ended; what is wrong is said."""
     kind, said, made, threads = run(program, test, folder, library)
-    if kind != PASSED:
+    if kind != PASSED or made is None:
         print(f"{test}, with all memory: {said.decode(errors='replace')}")
         return made or 0, Counter({WRONG: 1})
-    ended = Counter()
+    ended: Counter[str] = Counter()
     step = max(1, -(-made // most)) if most else 1
     for call in range(1, made + 1, step):
         for all_after in (False, True):
@@ -79,18 +91,19 @@ def refuse(program, test, folder, library, most):
     return made, ended
 
 
-def told(ended):
+def told(ended: Counter[str]) -> str:
+    """How many runs ended in each way."""
     return ", ".join(f"{kind} {ended[kind]}" for kind in (WANT, PASSED, ALONE, WRONG))
 
 
-def main():
+def main() -> int:
     if len(sys.argv) < 2:
         print(__doc__)
         return 2
     crates = Path(sys.argv[1]).resolve()
     most = int(sys.argv[2]) if len(sys.argv) > 2 else 0
     names = sys.argv[3:] or sorted(it.name for it in crates.iterdir() if list(it.glob("src/**/*.rt")))
-    whole = Counter()
+    whole: Counter[str] = Counter()
     with tempfile.TemporaryDirectory() as folder:
         library = built_library(folder)
         for name in names:
@@ -98,7 +111,8 @@ def main():
             if not program.exists():
                 print(f"{name}: no built tests")
                 continue
-            tests, calls, ended = tests_of(program), 0, Counter()
+            ended: Counter[str] = Counter()
+            tests, calls = tests_of(program), 0
             for test in tests:
                 made, found = refuse(program, test, folder, library, most)
                 calls += made
