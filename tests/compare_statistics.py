@@ -107,9 +107,9 @@ class Fold:
     def __init__(self, nodes: int) -> None:
         self.nodes = nodes
         self.events = 0
-        self.answers: Counter = Counter()
-        self.kinds: Counter = Counter()
-        self.leads: Counter = Counter()
+        self.answers: Counter[str] = Counter()
+        self.kinds: Counter[str] = Counter()
+        self.leads: Counter[str] = Counter()
         self.lost_at_once = 0
         self.lead: Optional[str] = None
         self.now, self.known = [0] * nodes, [0] * nodes

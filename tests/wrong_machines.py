@@ -14,6 +14,7 @@ import subprocess
 import sys
 import tempfile
 from pathlib import Path
+from typing import Optional
 
 ROOT = Path(__file__).resolve().parent.parent
 SPECS = Path("crates/sn_model/specs")
@@ -56,7 +57,7 @@ WRONG = {
 }
 
 
-def copy_of_repository(folder):
+def copy_of_repository(folder: str) -> Path:
     """The crates with what their checks kept, so that only what an edit touches is checked again."""
     copy = Path(folder) / "repository"
     shutil.copytree(ROOT / "crates", copy / "crates", symlinks=True)
@@ -65,7 +66,7 @@ def copy_of_repository(folder):
     return copy
 
 
-def refused_by(copy):
+def refused_by(copy: Path) -> Optional[str]:
     """The crate whose check fails first, or None where all is proved."""
     done = subprocess.run(["rt", "check"], cwd=copy / "crates/consistent_cuts", capture_output=True, text=True)
     if done.returncode == 0:
@@ -76,7 +77,7 @@ def refused_by(copy):
     return f"{crates[-1] if crates else '?'}, {place}"
 
 
-def main():
+def main() -> int:
     names = sys.argv[1:] or list(WRONG)
     missed = 0
     with tempfile.TemporaryDirectory(dir=os.environ.get("TMPDIR")) as folder:

@@ -108,10 +108,13 @@ class Machine:
     """A machine by its definitions."""
 
     def __init__(self, world: World, words: str, nodes: int, sets: int, ways: int, log: int, watch: int) -> None:
-        self.get = lambda file, name: world.get("sn_model", file, name)
-        self.image, self.watch = image_of(words), watch
+        self.world, self.image, self.watch = world, image_of(words), watch
         self.config = Rec(nodes=nodes, sets=sets, ways=ways, log=log)
         self.state = self.get("Machine", "start_of")(self.image)(nodes)
+
+    def get(self, file: str, name: str) -> Any:
+        """A definition of the machine's crate."""
+        return self.world.get("sn_model", file, name)
 
     def cut_lines(self) -> List[str]:
         fabric, processors = self.state["fabric"], self.state["processors"]
@@ -167,6 +170,10 @@ def candidates(machine: Machine, choose: random.Random) -> Con:
     return Con((f"Event.{kind}",)) if kind in ("Validate", "Recover") else Con((f"Event.{kind}", node))
 
 
+# The events of a case, each of which may be chosen by the state before it.
+Events = Callable[[Machine], Iterable[Con]]
+
+
 def event_of(line: str) -> Con:
     """The event of a line of a script."""
     name, *words = line.split()
@@ -203,15 +210,25 @@ def first_difference(expected: str, found: str) -> str:
     return "one report is longer"
 
 
-def cases(count: int, seed: str) -> Iterator[Tuple[str, str, Shape, Callable[[Machine], Iterable[Con]]]]:
+def stored(script: List[str]) -> Events:
+    """The events of a stored script."""
+    return lambda machine: map(event_of, script)
+
+
+def drawn(choose: random.Random, length: int) -> Events:
+    """So many events, each likely to do something."""
+    return lambda machine: (candidates(machine, choose) for _ in range(length))
+
+
+def cases(count: int, seed: str) -> Iterator[Tuple[str, str, Shape, Events]]:
     """Name, program, shape and events of each case; the events are a function of the machine."""
     for name, (program, shape, script) in schedules.SCHEDULES.items():
-        yield name, program, shape, lambda machine, script=script: map(event_of, script)
+        yield name, program, shape, stored(script)
     for case in range(count):
         choose = random.Random(f"{seed} {case}")
         shape = (choose.choice([1, 2, 2, 3, 4]), choose.choice([1, 2, 16]), choose.choice([1, 2, 4]), choose.choice([4, 5, 8, 256]))
         length = choose.randrange(20, 160)
-        yield f"case {case}", choose.choice(sorted(PROGRAMS)), shape, lambda machine, choose=choose, length=length: (candidates(machine, choose) for _ in range(length))
+        yield f"case {case}", choose.choice(sorted(PROGRAMS)), shape, drawn(choose, length)
 
 
 def count_answers(report: str, answers: Dict[str, int]) -> None:

@@ -255,7 +255,9 @@ class Module:
                 self.names[local] = ("import", (crate, path), name)
 
     def data(self, text: str) -> None:
-        type_name = re.search(r"data (\w+)", text).group(1)
+        found = re.search(r"data (\w+)", text)
+        assert found
+        type_name = found[1]
         for name, rest in re.findall(r"^\s+(\w+) :(.*)$", text, re.M):
             self.names[name] = ("variant", type_name, name)
             named = sum(len(group.split()) for group in re.findall(r"\(([\w ]+) :", rest))

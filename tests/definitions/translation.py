@@ -12,11 +12,11 @@ from typing import Any, Callable, Dict, List, NamedTuple, Tuple
 Tree = Tuple[Any, ...]
 
 
-class Con(tuple):
+class Con(tuple[Any, ...]):
     """A variant: its name with its type's, and what it carries."""
 
 
-class Rec(dict):
+class Rec(dict[str, Any]):
     """A record, by its fields."""
 
 
