@@ -15,6 +15,7 @@ import subprocess
 import sys
 import tempfile
 from pathlib import Path
+from typing import Dict, List, Sequence
 
 import compare_instructions as instructions
 
@@ -89,15 +90,16 @@ LABELS = ["loop", "end", "_a", "L1", "x1", "x_2"]
 ODD_BYTES = b" \t,()#:.-_0x9aZ\n\r\xc3\x80"
 
 
-def build(folder):
+def build(folder: Path) -> Path:
     """A repository of the crates and the reader; gives the reader's folder."""
     return with_program(folder, "reader", MENTIONED, {"src/main.rt": READER})
 
 
-def read(reader, lines):
+def read(reader: Path, lines: Sequence[str]) -> List[List[str]]:
     """The reader's lines for each of its input's lines."""
     done = subprocess.run(["rt", "try", "--seconds", "500"], cwd=reader, input="".join(line + "\n" for line in lines), capture_output=True, text=True)
-    said, answers = [], []
+    said: List[str] = []
+    answers: List[List[str]] = []
     for line in done.stdout.splitlines():
         if line == "end":
             answers.append([part for part in said if part])
@@ -109,11 +111,13 @@ def read(reader, lines):
     return answers
 
 
-def hexadecimal(text):
+def hexadecimal(text: bytes) -> str:
+    """The reader's line for a text that is to be assembled."""
     return "asm " + " ".join(f"{byte:02x}" for byte in text)
 
 
-def compare_words(simulator, folder, reader, choose, count):
+def compare_words(simulator: str, folder: Path, reader: Path, choose: random.Random, count: int) -> None:
+    """So many words have the same lines on both sides, and the lines give the words."""
     words = [instructions.random_word(choose) for _ in range(count)]
     if_written = [word if choose.random() < 0.2 else instructions.plainly_written(word) for word in words]
     parts = [if_written[start : start + 50] for start in range(0, count, 50)]
@@ -129,32 +133,47 @@ def compare_words(simulator, folder, reader, choose, count):
     print(f"{count} words have the same lines, {sum(not line.startswith('.word') for line in here)} of them instructions, and the lines give the words")
 
 
-def register(choose):
+def register(choose: random.Random) -> str:
+    """A register by its number or its usual name."""
     return choose.choice([f"x{choose.randrange(32)}", choose.choice(USUAL)])
 
 
-def number(choose, least, most):
+def number(choose: random.Random, least: int, most: int) -> str:
+    """A number of the range or next to it, in some spelling."""
     value = choose.choice([choose.randint(least, most), choose.randint(least, most), least, most, least - 1, most + 1, 0])
     if value >= 0 and choose.random() < 0.4:
         return f"0x{value:x}" if choose.random() < 0.7 else f"0x{value:0{choose.choice([4, 12, 13])}X}"
     return f"{value}" if choose.random() < 0.9 else f"{value:0{choose.choice([5, 12, 13])}d}"
 
 
-def spaced(choose, parts):
+def spaced(choose: random.Random, parts: Sequence[str]) -> str:
     """The operands, with blanks and tabs around what parts them."""
-    blank = lambda: choose.choice(["", "", "", " ", "  ", "\t"])
+
+    def blank() -> str:
+        return choose.choice(["", "", "", " ", "  ", "\t"])
+
     return "".join(blank() + part + blank() if part in ",()" else part for part in parts)
 
 
-def operands(choose, name):
-    r = lambda: register(choose)
-    target = lambda reach: choose.choice(LABELS) if choose.random() < 0.4 else str(2 * choose.choice([choose.randint(-reach, reach), 0, -reach, reach - 1, reach]) + (choose.random() < 0.1))
+def target(choose: random.Random, reach: int) -> str:
+    """Where a jump goes: a label or a distance, at its greatest now and then, and odd in some cases."""
+    if choose.random() < 0.4:
+        return choose.choice(LABELS)
+    return str(2 * choose.choice([choose.randint(-reach, reach), 0, -reach, reach - 1, reach]) + (choose.random() < 0.1))
+
+
+def operands(choose: random.Random, name: str) -> List[str]:
+    """The operands of an instruction, and what parts them."""
+
+    def r() -> str:
+        return register(choose)
+
     if name in ("lui", "auipc"):
         return [r(), ",", number(choose, 0, 1048575)]
     if name == "jal":
-        return [r(), ",", target(524288)]
+        return [r(), ",", target(choose, 524288)]
     if name in instructions.BRANCHES:
-        return [r(), ",", r(), ",", target(2048)]
+        return [r(), ",", r(), ",", target(choose, 2048)]
     if name == "jalr" or name in instructions.LOADS or name in instructions.STORES:
         return [r(), ",", number(choose, -2048, 2047), "(", r(), ")"]
     if name in instructions.IMMEDIATES:
@@ -175,7 +194,8 @@ NAMES = (
 )
 
 
-def random_line(choose, labels):
+def random_line(choose: random.Random, labels: List[str]) -> str:
+    """A line of a text; a label is taken from these."""
     kind = choose.random()
     if kind < 0.08:
         return choose.choice(["", " ", "\t# nothing", "# a comment: x1, (x2)"])
@@ -187,21 +207,22 @@ def random_line(choose, labels):
     return choose.choice(["", "", " ", "\t"]) + name + blank + spaced(choose, operands(choose, name)) + comment
 
 
-def random_text(choose):
+def random_text(choose: random.Random) -> bytes:
+    """A few lines, half of the texts with a byte or two changed."""
     labels = LABELS[:]
     choose.shuffle(labels)
     if choose.random() < 0.1:
         labels.append(labels[0])
     ended = choose.choice(["\n", "\n", "\r\n"])
-    text = ended.join([random_line(choose, labels) for _ in range(choose.randrange(1, 8))] + [label + ":" for label in labels if choose.random() < 0.8])
-    text = bytearray((text + choose.choice(["", ended])).encode())
+    whole = ended.join([random_line(choose, labels) for _ in range(choose.randrange(1, 8))] + [label + ":" for label in labels if choose.random() < 0.8])
+    text = bytearray((whole + choose.choice(["", ended])).encode())
     for _ in range(choose.choice([0, 0, 1, 2])):
         place = choose.randrange(len(text) + 1)
         text[place : place + choose.randrange(2)] = bytes([choose.choice(ODD_BYTES)]) * choose.randrange(2)
     return bytes(text)
 
 
-def assembled(simulator, folder, text):
+def assembled(simulator: str, folder: Path, text: bytes) -> List[str]:
     """The simulator's words, or the cause's name."""
     file = folder / "text.s"
     file.write_bytes(text)
@@ -209,9 +230,10 @@ def assembled(simulator, folder, text):
     return done.stdout.split() if done.returncode == 0 else [done.stderr.split()[-1]]
 
 
-def compare_texts(simulator, folder, reader, choose, count):
+def compare_texts(simulator: str, folder: Path, reader: Path, choose: random.Random, count: int) -> None:
+    """So many texts have the same words on both sides, or the same cause."""
     texts = [random_text(choose) for _ in range(count)]
-    counts = {}
+    counts: Dict[str, int] = {}
     for text, here in zip(texts, read(reader, [hexadecimal(text) for text in texts]), strict=True):
         cause = re.fullmatch(r"([A-Z]\w+)\(\d+\)", here[0]) if len(here) == 1 else None
         mine = [cause[1].lower()] if cause else here
@@ -222,7 +244,8 @@ def compare_texts(simulator, folder, reader, choose, count):
     print(f"{count} texts are the same: " + ", ".join(f"{name} {counts[name]}" for name in sorted(counts)))
 
 
-def compare_examples(reader):
+def compare_examples(reader: Path) -> None:
+    """The stored programs have the words of the files beside them."""
     files = sorted((Path(__file__).resolve().parent.parent / "examples" / "asm").glob("*.s"))
     for file, here in zip(files, read(reader, [hexadecimal(file.read_bytes()) for file in files]), strict=True):
         if here != file.with_suffix(".hex").read_text().split():
@@ -230,15 +253,15 @@ def compare_examples(reader):
     print(f"{len(files)} programs of examples/asm have the words of their .hex files")
 
 
-def main():
+def main() -> None:
     if len(sys.argv) < 2:
         print(__doc__)
         sys.exit(2)
     simulator = str(Path(sys.argv[1]).resolve())
     words, texts, seed = (int(text) for text in (sys.argv[2:] + ["20000", "3000", "1"][len(sys.argv) - 2 :])[:3])
     choose = random.Random(seed)
-    with tempfile.TemporaryDirectory() as folder:
-        folder = Path(folder)
+    with tempfile.TemporaryDirectory() as room:
+        folder = Path(room)
         reader = build(folder)
         compare_examples(reader)
         compare_words(simulator, folder, reader, choose, words)

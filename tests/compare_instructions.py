@@ -15,6 +15,7 @@ import subprocess
 import sys
 import tempfile
 from pathlib import Path
+from typing import List, Sequence
 
 sys.path.append(str(Path(__file__).resolve().parent.parent / "bench"))
 from small_repository import with_program  # noqa: E402
@@ -107,12 +108,13 @@ REGISTERS = ["add", "sll", "slt", "sltu", "xor", "srl", "or", "and", "sub", "sra
 ATOMICS = ["amoswap", "amoadd", "amoxor", "amoand", "amoor", "amomin", "amomax", "amominu", "amomaxu"]
 
 
-def build(folder):
+def build(folder: Path) -> Path:
     """A repository of the crates and the reader; gives the reader's folder."""
     return with_program(folder, "reader", MENTIONED, {"src/main.rt": READER})
 
 
-def read(reader, lines):
+def read(reader: Path, lines: Sequence[str]) -> List[str]:
+    """The reader's lines for its input's."""
     done = subprocess.run(["rt", "try", "--seconds", "500"], cwd=reader, input="".join(line + "\n" for line in lines), capture_output=True, text=True)
     answers = [line for line in done.stdout.splitlines() if re.match(r"[0-9a-f]{8} [A-Z]|Illegal$|\d+ CoreState|none$", line)]
     if not answers:
@@ -120,9 +122,10 @@ def read(reader, lines):
     return answers
 
 
-def disassembled(simulator, folder, words):
+def disassembled(simulator: str, folder: Path, words: Sequence[int]) -> List[str]:
+    """The simulator's lines of these words."""
     file = folder / "words.hex"
-    texts = []
+    texts: List[str] = []
     for start in range(0, len(words), 10000):
         file.write_text("".join(f"{word:08x}\n" for word in words[start : start + 10000]))
         done = subprocess.run([simulator, "dis", str(file)], capture_output=True, text=True)
@@ -130,7 +133,7 @@ def disassembled(simulator, folder, words):
     return texts
 
 
-def as_debug(text):
+def as_debug(text: str) -> str:
     """The simulator's line as the reader prints the instruction."""
     name, _, rest = text.partition(" ")
     n = [int(number) for number in re.findall(r"-?\d+", rest)]
@@ -160,7 +163,7 @@ def as_debug(text):
     return variant
 
 
-def plainly_written(word):
+def plainly_written(word: int) -> int:
     """The word with the bits 0 that no atomic operation looks at, and of a FENCE the one that orders everything."""
     if word & 0x7F == 0x2F:
         return word & ~(3 << 25)
@@ -169,7 +172,8 @@ def plainly_written(word):
     return word
 
 
-def random_word(choose):
+def random_word(choose: random.Random) -> int:
+    """A word at random, of which most have an opcode that there is."""
     word = choose.getrandbits(32)
     if choose.random() < 0.9:
         word = word & ~0x7F | choose.choice(OPCODES)
@@ -182,7 +186,8 @@ def random_word(choose):
     return word
 
 
-def compare_words(simulator, folder, reader, choose, count):
+def compare_words(simulator: str, folder: Path, reader: Path, choose: random.Random, count: int) -> None:
+    """So many words are the same instructions on both sides, and are written again alike."""
     words = [random_word(choose) for _ in range(count)]
     answers = read(reader, [" ".join(f"{word:08x}" for word in words[start : start + 50]) for start in range(0, count, 50)])
     texts = disassembled(simulator, folder, [plainly_written(word) for word in words])
@@ -195,7 +200,7 @@ def compare_words(simulator, folder, reader, choose, count):
     print(f"{count} words are the same, {legal} of them instructions")
 
 
-def random_instruction(choose, odd):
+def random_instruction(choose: random.Random, odd: float) -> str:
     """An instruction of registers 6 to 15, and of memory by x5; jumps go forward. Some trap, where `odd` isn't 0."""
     rd, rs1, rs2 = (choose.choice([0, *range(6, 16)]) for _ in range(3))
     immediate = choose.choice([choose.randrange(-2048, 2048), choose.randrange(-4, 5)])
@@ -223,7 +228,7 @@ def random_instruction(choose, odd):
     return choose.choice(["fence", f"lw x{rd}, -4(x5)"])
 
 
-def random_program(choose, simulator, folder, turns, odd):
+def random_program(choose: random.Random, simulator: str, folder: Path, turns: int, odd: float) -> List[str]:
     """A loop of so many turns over random instructions."""
     lines = ["lui x5, 524289", f"addi x4, x0, {turns}"]
     lines += [f"lui x{number}, {choose.choice([0, 0x7ffff, 0x80000, 0xfffff, choose.getrandbits(20)])}" for number in range(6, 16)]
@@ -238,16 +243,25 @@ def random_program(choose, simulator, folder, turns, odd):
     return words
 
 
-def core_line(debug):
+def part_of(debug: str, pattern: str) -> str:
+    """What the pattern's brackets match in the reader's core."""
+    found = re.search(pattern, debug)
+    if found is None:
+        sys.exit(f"a core without {pattern}: {debug}")
+    return found[1]
+
+
+def core_line(debug: str) -> str:
     """The reader's core as the simulator's summary prints it."""
-    pc = int(re.search(r"pc: (\d+)", debug)[1])
-    registers = [int(number) for number in re.search(r"x: \[([^\]]*)\]", debug)[1].split(", ")]
-    cause = re.search(r"Trapped\((\w+)\)", debug)[1]
+    pc = int(part_of(debug, r"pc: (\d+)"))
+    registers = [int(number) for number in part_of(debug, r"x: \[([^\]]*)\]").split(", ")]
+    cause = part_of(debug, r"Trapped\((\w+)\)")
     word = {"Illegal": "illegal", "FetchFault": "fetch", "MisalignedTarget": "target", "MisalignedAccess": "misaligned", "AccessFault": "access", "UnknownCall": "call", "Break": "break"}[cause]
     return f"core 0 {pc:08x} trapped {word}" + "".join(f" x{number}={value:08x}" for number, value in enumerate(registers) if value)
 
 
-def compare_steps(simulator, folder, reader, choose, count):
+def compare_steps(simulator: str, folder: Path, reader: Path, choose: random.Random, count: int) -> None:
+    """Programs of together so many steps leave the same core on both sides."""
     programs = [random_program(choose, simulator, folder, 10, 0) for _ in range(count // 1500 + 1)]
     programs += [random_program(choose, simulator, folder, 1, 0.05) for _ in range(4)]
     answers = read(reader, ["run " + " ".join(words) for words in programs])
@@ -265,7 +279,7 @@ def compare_steps(simulator, folder, reader, choose, count):
         sys.exit("too few steps")
 
 
-def main():
+def main() -> None:
     if len(sys.argv) < 2:
         print(__doc__)
         sys.exit(2)

@@ -22,7 +22,7 @@ import tempfile
 from pathlib import Path
 from typing import Dict, List, Sequence, Tuple, Union
 
-from outcomes import without_reason
+from outcomes import Outcome, without_reason
 
 ECALL = 0x73
 
@@ -246,7 +246,7 @@ def watched(choose: random.Random) -> str:
     return choose.choice([f"{address:08x}", f"{address:08X}"])
 
 
-def run(command: Sequence[str], words: Sequence[str], folder: Union[str, Path], name: str = "replay") -> Tuple[int, bytes, bytes]:
+def run(command: Sequence[str], words: Sequence[str], folder: Union[str, Path], name: str = "replay") -> Outcome:
     """What a command of a program comes to, with these words."""
     done = subprocess.run([*command, name, *words], cwd=folder, capture_output=True)
     return without_reason((done.returncode, done.stdout, done.stderr))

@@ -20,11 +20,12 @@ import sys
 import tempfile
 from collections import Counter
 from pathlib import Path
+from typing import Dict, List, Sequence, Tuple
 
-from outcomes import is_explained, seen_last, without_reason
+from outcomes import Outcome, is_explained, seen_last, without_reason
 
 # A command's files, options with a value, and flags.
-COMMANDS = {
+COMMANDS: Dict[str, Tuple[List[str], List[str], List[str]]] = {
     "replay": (["program", "events.script"], ["nodes", "sets", "ways", "log", "watch"], ["trace"]),
     "roll": (["program", "events.script", "calls.control"], ["nodes", "sets", "ways", "log", "watch"], []),
     "save": (["program", "events.script"], ["nodes", "sets", "ways", "log"], []),
@@ -66,7 +67,7 @@ STRANGE = ["-x", "--", "-", "", "-4", "4", "=", "--=", "--=4", "---nodes", "--no
            "--\u00e9=1", "--journal", "--journal=", "--kill", "--kill=a0@0", "--lose_every=4", "--loseevery=4", "a b", "program", "bad", "none", "-odd", "*", "--nodes =4", "-V"]
 
 
-def number(choose, name):
+def number(choose: random.Random, name: str) -> str:
     """A number of the range in some spelling, or none."""
     least, greatest = RANGES[name]
     small = min(greatest, 40)
@@ -78,7 +79,7 @@ def number(choose, name):
                           str(value + 2**64), str(value + 2**32), str(value + 256), "99999999999999999999", "1_0", "--trace"])
 
 
-def address(choose):
+def address(choose: random.Random) -> str:
     """A word's address in some spelling, or none."""
     value = choose.choice([0x80000000, 0x80001000, 0x803FFFFC, 0x80000000 + 4 * choose.randrange(2**20)])
     if choose.random() < 0.7:
@@ -87,7 +88,7 @@ def address(choose):
                           f"0x{value:x}", f"+{value:x}"[:8], f" {value:x}"[:8], "", "8000000g", "8000_000", "\u0668" * 4, "-8000000", "--trace"])
 
 
-def kill(choose):
+def kill(choose: random.Random) -> str:
     """A switch and a number of events in some spelling, or none."""
     side, node, events = choose.choice("ab"), choose.randrange(4), choose.choice([0, 7, 20, 1_000_000])
     if choose.random() < 0.7:
@@ -97,16 +98,17 @@ def kill(choose):
                           f"{side}{node} @{events}", f"{side}{node}@@{events}", f"{side}{node}@{events}@0", f"{side}{node}@{events:021d}", "@", "", "\u00e9@0"])
 
 
-def value_of(choose, name):
+def value_of(choose: random.Random, name: str) -> str:
     return address(choose) if name == "watch" else kill(choose) if name == "kill" else number(choose, name)
 
 
-def option(choose, name):
+def option(choose: random.Random, name: str) -> List[str]:
+    """An option with its value, in one of its two forms."""
     value = value_of(choose, name)
     return choose.choice([[f"--{name}", value], [f"--{name}={value}"]])
 
 
-def good(choose, command):
+def good(choose: random.Random, command: str) -> List[str]:
     """The words of a command, whose values alone may be wrong."""
     files, options, flags = COMMANDS[command]
     chosen = [name for name in options if choose.random() < (OFTEN.get(name, 0.4) if command in ("run", "monitor") else 0.4)]
@@ -125,7 +127,7 @@ def good(choose, command):
     return words
 
 
-def changed(choose, words):
+def changed(choose: random.Random, words: List[str]) -> List[str]:
     """The words with one thing wrong, in most cases."""
     place = choose.randrange(len(words))
     kind = choose.choice(["strange", "strange", "strange", "lacking", "doubled", "exchanged", "file", "other", "case", "option", "joined"])
@@ -149,25 +151,27 @@ def changed(choose, words):
     return words[:place] + ["=".join(words[place:place + 2])] + words[place + 2:]
 
 
-def line(choose, commands):
+def line(choose: random.Random, commands: Sequence[str]) -> List[str]:
+    """A line of words: a third of them good, the others with one thing wrong or a few."""
     words = good(choose, choose.choice(commands))
     for _ in range(choose.choice([0, 0, 1, 1, 2, 3])):
         words = changed(choose, words) if words else words
     return words
 
 
-def commands_of(built):
+def commands_of(built: str) -> List[str]:
     """The commands that the program's page names."""
     page = subprocess.run([built, "--help"], capture_output=True, text=True).stdout
     return [name for name in COMMANDS if re.search(rf"^  {name} +[A-Z]", page, re.MULTILINE)]
 
 
-def is_left_out(words, commands):
+def is_left_out(words: Sequence[str], commands: Sequence[str]) -> bool:
+    """Whether the program answers these words itself, or the simulator has no such command."""
     is_own = len(words) == 0 or words[0] in ANSWERED_ITSELF or (len(words) == 2 and words[1] in ANSWERED_ITSELF)
     return is_own or (words[0] in COMMANDS and words[0] not in commands)
 
 
-def is_same(words, found, expected):
+def is_same(words: Sequence[str], found: Outcome, expected: Outcome) -> bool:
     """Whether both came to the same: where both are done that is enough of a run on several nodes; and of what was seen the last line is."""
     if words[0] == "monitor":
         return seen_last(found) == seen_last(expected)
@@ -175,18 +179,19 @@ def is_same(words, found, expected):
     return has_turns or found == expected
 
 
-def run(command, words, folder):
+def run(command: Sequence[str], words: Sequence[str], folder: str) -> Outcome:
     done = subprocess.run([*command, *words], cwd=folder, capture_output=True)
     return done.returncode, done.stdout, done.stderr
 
 
-def main():
+def main() -> int:
     if len(sys.argv) < 3:
         print(__doc__)
         return 2
     built, simulator = (str(Path(name).resolve()) for name in sys.argv[1:3])
     count, seed = int(sys.argv[3]) if len(sys.argv) > 3 else 20_000, sys.argv[4] if len(sys.argv) > 4 else "1"
-    commands, statuses, case, done = commands_of(built), Counter(), 0, 0
+    statuses: Counter[int] = Counter()
+    commands, case, done = commands_of(built), 0, 0
     with tempfile.TemporaryDirectory() as folder:
         for name, text in FILES.items():
             if name:

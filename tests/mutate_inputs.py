@@ -19,10 +19,11 @@ import sys
 import tempfile
 from concurrent.futures import ProcessPoolExecutor
 from pathlib import Path
+from typing import Dict, List, Optional, Sequence, Tuple, Union
 
 sys.path.insert(0, str(Path(__file__).resolve().parent))
 import compare_replay  # noqa: E402
-from outcomes import seen_last, without_reason  # noqa: E402
+from outcomes import Outcome, seen_last, without_reason  # noqa: E402
 from served_program import ServedProgram, built_server  # noqa: E402
 
 STATUSES = {0, 1, 2, 3, 4, 5, 6, 7, 8, 9, 10, 12, 13}
@@ -56,9 +57,9 @@ ACCESSES = [b"0 w 80001000 4 00000001", b"1 r 80001000 4 00000001", b"0 r 800010
             b"0 scfail 80001000 4 00000003", b"2 amo 80001000 4 00000003 00000002", b"0 r 80001001 1 00", b"3 w 80001002 2 ffff", b"init 80001004 0000002a", b"# an access"]
 
 
-def changed(choose, data):
+def changed(choose: random.Random, file: bytes) -> bytes:
     """Some bytes of a file changed, cut, doubled or moved."""
-    data = bytearray(data)
+    data = bytearray(file)
     for _ in range(choose.choice([1, 1, 1, 2, 5])):
         if not data:
             return bytes([choose.choice(LETTERS)])
@@ -81,21 +82,23 @@ def changed(choose, data):
     return bytes(data)
 
 
-def maybe_changed(choose, data, chance):
+def maybe_changed(choose: random.Random, data: bytes, chance: float) -> bytes:
     return changed(choose, data) if choose.random() < chance else data
 
 
-def program(choose):
+def program(choose: random.Random) -> bytes:
+    """The file of a program at random, of either kind."""
     make = choose.choice([compare_replay.hexadecimal_image, compare_replay.elf_file])
     return make(choose, compare_replay.program(choose))
 
 
-def lines(choose, kinds, most):
+def lines(choose: random.Random, kinds: Sequence[bytes], most: int) -> bytes:
+    """A text of less than so many lines of these kinds."""
     end = choose.choice([b"\n", b"\n", b"\r\n", b"\r"])
     return b"".join(choose.choice(kinds) + end for _ in range(choose.randrange(most)))
 
 
-def saved(choose, nodes):
+def saved(choose: random.Random, nodes: int) -> bytes:
     """A save file that is one of a machine at its start, or near it."""
     applied = choose.choice([0, 1, 4, 20])
     items = sorted(choose.sample(SAVED, choose.randrange(5)), key=lambda line: [b"d", b"o", b"g", b"r"].index(line[:1])) if applied else []
@@ -103,12 +106,14 @@ def saved(choose, nodes):
     return b"".join(line + b"\n" for line in [*head, *items, b"end"])
 
 
-def script(choose, nodes):
+def script(choose: random.Random, nodes: int) -> bytes:
+    """A script of a few events at random."""
     return b"".join(compare_replay.event(choose, nodes, place // 3).encode() + b"\n" for place in range(choose.randrange(30)))
 
 
-def spoiled_words(choose, words):
-    words = list(words)
+def spoiled_words(choose: random.Random, given: Sequence[str]) -> List[str]:
+    """The words with none, one or two of them put in, left out, changed or doubled."""
+    words = list(given)
     for _ in range(choose.choice([0, 0, 0, 1, 1, 2])):
         place = choose.randrange(len(words) + 1)
         kind = choose.randrange(4)
@@ -124,17 +129,20 @@ def spoiled_words(choose, words):
     return words
 
 
-def run_words(choose, command):
+def run_words(choose: random.Random, command: str) -> List[str]:
     """A run with one worker, which is the same each time but for what was seen of it, if it is watched."""
     words = [command, "--nodes", "1", f"--budget={choose.choice([1, 7, 100, 400])}"]
-    for name, values in {"interval": [1, 5, 100], "wait": [1, 50, 20000], "lose-every": [0, 1, 9], "seed": [0, 1, 2**64 - 1], "kill": ["a0@0", "b0@30"],
-                         **({"order": ["threads", "round", "drawn"]} if command == "run" else {})}.items():
+    options: Dict[str, Sequence[Union[int, str]]] = {
+        "interval": [1, 5, 100], "wait": [1, 50, 20000], "lose-every": [0, 1, 9], "seed": [0, 1, 2**64 - 1], "kill": ["a0@0", "b0@30"],
+        **({"order": ["threads", "round", "drawn"]} if command == "run" else {})}
+    for name, values in options.items():
         if choose.random() < 0.4:
             words.append(f"--{name}={choose.choice(values)}")
-    return [*words, *(choose.choice([[], [], ["--journal"], ["--trace"]]) if command == "run" else []), "a"]
+    flags: List[str] = choose.choice([[], [], ["--journal"], ["--trace"]]) if command == "run" else []
+    return [*words, *flags, "a"]
 
 
-def case_of(choose, commands):
+def case_of(choose: random.Random, commands: Sequence[str]) -> Tuple[List[str], Dict[str, bytes]]:
     """Words, and the files that stand there."""
     nodes = choose.choice([1, 1, 2, 4])
     kind = choose.choices(commands, [SHARES[it] for it in commands])[0]
@@ -169,29 +177,29 @@ def case_of(choose, commands):
     return spoiled_words(choose, words), files
 
 
-def started(built, words, folder):
+def started(built: str, words: Sequence[str], folder: Path) -> Outcome:
     """A run in the ordinary way: the program is started for it."""
     done = subprocess.run([built, *words], cwd=folder, stdin=subprocess.DEVNULL, capture_output=True, timeout=SECONDS)
     return done.returncode, done.stdout, done.stderr
 
 
-def commands_of(built):
+def commands_of(built: str) -> List[str]:
     """The commands that the program's page names."""
     page = subprocess.run([built, "--help"], capture_output=True, text=True, check=True).stdout
     return [name for name in SHARES if re.search(rf"^  {name} +[A-Z]", page, re.MULTILINE)]
 
 
-def is_own(words):
+def is_own(words: Sequence[str]) -> bool:
     """Whether the program answers by itself: with its own pages, or what the simulator doesn't know or knows as something else."""
     return not words or words[0] in OWN_COMMANDS or any(word.split("=")[0] in OWN_WORDS for word in words)
 
 
-def has_one_outcome(words):
+def has_one_outcome(words: Sequence[str]) -> bool:
     """Whether the words' run is the same each time: with more workers than one a run is as the threads come."""
     return words[:1] != ["run"] or words[1:3] == ["--nodes", "1"]
 
 
-def put_files(folder, files):
+def put_files(folder: Path, files: Dict[str, bytes]) -> None:
     """Just these files stand there then."""
     for name in ("a", "b", "c"):
         if name in files:
@@ -203,7 +211,7 @@ def put_files(folder, files):
 class Pair:
     """The program and the simulator, each started once, in a folder of the cases' files."""
 
-    def __init__(self, built, simulator, folder):
+    def __init__(self, built: str, simulator: str, folder: str) -> None:
         library = built_server(folder)
         self.folder = Path(folder, "files")
         self.folder.mkdir()
@@ -211,31 +219,32 @@ class Pair:
         self.program = ServedProgram(library, built, [], self.folder, SECONDS)
         self.other = ServedProgram(library, simulator, ["--main", "--probe"], self.folder, SECONDS)
 
-    def difference(self, seed, case):
+    def difference(self, seed: str, case: int) -> Tuple[Optional[str], int]:
         """What is wrong with a case, as text, or None; and its status."""
         words, files = case_of(random.Random(f"{seed} {case}"), self.commands)
         put_files(self.folder, files)
         found = self.program.run(words)
-        others = []
+        others: List[Tuple[str, Outcome]] = []
         if has_one_outcome(words):
             if not is_own(words) and seen_last(self.other.run(words)) != seen_last(without_reason(found)):
-                return f"case {case}, {words}: {found}, and the simulator: {self.other.run(words)}; {files}", None
+                return f"case {case}, {words}: {found}, and the simulator: {self.other.run(words)}; {files}", found[0]
             others += [("once more", self.program.run(words))] if case % 4 == 0 else []
             others += [("started for it", started(self.built, words, self.folder))] if case % 100 == 0 else []
         if found[0] not in STATUSES:
-            return f"case {case}, {words}: status {found[0]}; {found}; {files}", None
+            return f"case {case}, {words}: status {found[0]}; {found}; {files}", found[0]
         for name, other in others:
             if seen_last(other) != seen_last(found):
-                return f"case {case}, {words}: {found}, and {name}: {other}; {files}", None
+                return f"case {case}, {words}: {found}, and {name}: {other}; {files}", found[0]
         return None, found[0]
 
-    def end(self):
+    def end(self) -> None:
         self.program.end()
         self.other.end()
 
 
-def share(built, simulator, seed, cases):
-    counts = {}
+def share(built: str, simulator: str, seed: str, cases: range) -> Tuple[Optional[str], Dict[int, int]]:
+    """The first difference in these cases, if there is one, and how many had each status."""
+    counts: Dict[int, int] = {}
     # Where the system has a folder in memory, the files stand there.
     with tempfile.TemporaryDirectory(dir="/dev/shm" if Path("/dev/shm").is_dir() else None) as folder:
         pair = Pair(built, simulator, folder)
@@ -250,14 +259,14 @@ def share(built, simulator, seed, cases):
     return None, counts
 
 
-def main():
+def main() -> int:
     if len(sys.argv) < 4:
         print(__doc__)
         return 2
     built, simulator = (str(Path(name).resolve()) for name in sys.argv[1:3])
     count, seed = int(sys.argv[3]), sys.argv[4] if len(sys.argv) > 4 else "1"
     processes = int(sys.argv[5]) if len(sys.argv) > 5 else 1
-    counts = {}
+    counts: Dict[int, int] = {}
     with ProcessPoolExecutor(processes) as pool:
         shares = [pool.submit(share, built, simulator, seed, range(first, count, processes)) for first in range(processes)]
         texts = []

@@ -2,6 +2,9 @@
 import re
 from typing import Optional, Tuple, TypeVar
 
+# A status, and what was written to standard output and to standard error.
+Outcome = Tuple[int, bytes, bytes]
+
 # A status: a number or, of a call that didn't end, none.
 Status = TypeVar("Status", bound=Optional[int])
 

@@ -6,7 +6,9 @@ import os
 import struct
 import subprocess
 from pathlib import Path
-from typing import List, Sequence, Tuple, Union
+from typing import List, Sequence, Union
+
+from outcomes import Outcome
 
 SOURCE = Path(__file__).resolve().parent / "mutate_inputs" / "serve.c"
 
@@ -30,7 +32,7 @@ class ServedProgram:
         os.close(words)
         os.close(answers)
 
-    def run(self, words: Sequence[str]) -> Tuple[int, bytes, bytes]:
+    def run(self, words: Sequence[str]) -> Outcome:
         """Status, standard output and standard error of a run; the status of one that a signal ended is the signal's number, less than 0."""
         text = b"".join(os.fsencode(word) + b"\0" for word in [*self.first, *words])
         message = struct.pack("i", len(text)) + text
