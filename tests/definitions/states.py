@@ -71,13 +71,16 @@ class Shown:
     """A machine by its definitions, with the lines of its states."""
 
     def __init__(self, world: World, machine: Machine) -> None:
-        self.machine = machine
-        self.get = lambda file, name: world.get("state_json", file, name)
+        self.world, self.machine = world, machine
         world.forget()
         lines = world.modules["state_json", "Lines"]
         lines.override("end_of", lambda image, nodes, committed: Rec(memory=()), 3)
         lines.override("core_at", lambda flat, n: self.core_at(n), 2)
         lines.override("word_at", lambda memory, address: self.word_at(), 2)
+
+    def get(self, file: str, name: str) -> Any:
+        """A definition of the lines."""
+        return self.world.get("state_json", file, name)
 
     def core_at(self, n: int) -> Rec:
         s = self.machine.state

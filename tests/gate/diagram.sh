@@ -135,7 +135,7 @@ if [ -x /usr/bin/python3 ]; then
 fi
 if has mypy "checking the types of the diagram's tools"; then
   is_so "mypy has nothing to say of them" mypy_says --ignore-missing-imports tools/diagram tools/diagrams/*.py
-  is_so "nor of what draws and tests" mypy_says --ignore-missing-imports tools/pictures tests/diagram_elements.py tests/diagram_browser.py tests/quoted_lessons.py
+  is_so "nor of what draws" mypy_says --ignore-missing-imports tools/pictures
 fi
 if has shellcheck "looking through these scripts"; then
   is_so "shellcheck has nothing to say of the scripts" shellcheck -x tests/gate/{diagram,lessons}.sh

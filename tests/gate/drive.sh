@@ -71,9 +71,6 @@ compared() {
 }
 is_so "scripts, lines strewn in, and each kind of end are as replay has them" compared
 
-if has mypy "checking the types of what compares"; then
-  is_so "mypy has nothing to say of them" mypy_says --allow-untyped-calls --follow-imports silent --ignore-missing-imports tests/compare_drive.py tests/drive_ends.py tests/driven.py
-fi
 if has shellcheck "looking through this script"; then
   is_so "shellcheck has nothing to say of it" shellcheck -x tests/gate/drive.sh
 fi

@@ -1,6 +1,7 @@
 #!/usr/bin/env bash
 # Holds what is made of the program's pages against them: the source's texts, the script ./safetynet, the manual page, the completion and the
-# version in CHANGELOG.md; and docs/promises against the crates. None of it needs the program. A part whose tool isn't there is skipped, and says so.
+# version in CHANGELOG.md; docs/promises against the crates; and the Python of tools/, tests/ and bench/ against its types. None of it needs the
+# program. A part whose tool isn't there is skipped, and says so.
 set -u
 cd "$(dirname "$0")/../.." || exit 1
 . tests/gate/lib/checks.sh
@@ -43,14 +44,15 @@ if has mandoc "checking the manual page's form"; then
   is_so "mandoc has nothing to say of $man" is_silent mandoc -Tlint -Wwarning "$man"
 fi
 
-# The completion, and the tools' types.
+# The completion, and the types of all Python that tests and measures; that of python/, of campaigns/ and of what draws is checked beside it.
 is_so "the completion offers what the pages have" python3 tests/completed_words.py
 if has shellcheck "looking through the shell's scripts"; then
   is_so "shellcheck has nothing to say of the completion" is_silent shellcheck -s bash contrib/completion.bash
   is_so "nor of what installs and tests" is_silent shellcheck -x tools/packages tests/gate/{installed,released,packages,pages,stands_alone}.sh
 fi
-if has mypy "checking the tools' types"; then
-  is_so "mypy has nothing to say of the tools" mypy_says tools/*.py tools/release tests/completed_words.py tests/pages_of_*.py
+if has mypy "checking the types of the tools, and of what tests and measures"; then
+  is_so "mypy has nothing to say of the tools" mypy_says tools/*.py tools/release
+  MYPYPATH=python:tools is_so "nor of what tests and measures" mypy_says --ignore-missing-imports {bench,tests,tests/definitions,tests/gate/lib}/*.py
 fi
 
 told pages

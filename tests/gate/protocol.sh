@@ -59,7 +59,4 @@ is_so "a function that doesn't go by variants is refused" definitions 2 "outcome
 if has shellcheck "checking this part"; then
   is_so "shellcheck has nothing to say of it" shellcheck -x tests/gate/protocol.sh
 fi
-if has mypy "checking the types of the comparison"; then
-  is_so "mypy has nothing to say of it" mypy_says tests/protocol_table.py
-fi
 told protocol

@@ -144,9 +144,6 @@ is_shown() { # what it says, command..
 is_shown "each spoiled file is refused for its cause, and each good one gone on from" python3 tests/spoiled_saves.py "$SAFETYNET"
 is_shown "runs that are saved and resumed are runs in one piece" python3 tests/resumed_runs.py "$SAFETYNET" 12 gate
 
-if has mypy "checking the types of what spoils and resumes"; then
-  is_so "mypy has nothing to say of them" mypy_says tests/spoiled_saves.py tests/resumed_runs.py
-fi
 if has shellcheck "looking through this script"; then
   is_so "shellcheck has nothing to say of it" shellcheck -x tests/gate/saves.sh
 fi

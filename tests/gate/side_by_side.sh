@@ -151,9 +151,6 @@ END
 does "a part that isn't there" 2 tests/gate/none.sh </dev/null
 does "none at a time" 2 --at-once 0 </dev/null
 cd "$OLDPWD" || exit 1
-if has mypy "checking the types of what does the parts"; then
-  is_so "mypy has nothing to say of it" mypy_says tests/gates.py
-fi
 if has shellcheck "looking through this script"; then
   is_so "shellcheck has nothing to say of it" shellcheck -x tests/gate/side_by_side.sh
 fi

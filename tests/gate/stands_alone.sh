@@ -24,8 +24,4 @@ is_so "no build output is committed" none_of "$(git ls-files -- 'crates/*/out/*'
 is_so "crates.txt has for each crate what its sources mention" python3 tools/crate_edges.py
 is_so "an older rt can walk the paths of crates.txt" python3 tools/crate_edges.py --paths
 
-if has mypy "checking the types of what looks at pages"; then
-  is_so "mypy has nothing to say of it" mypy_says tests/page_links.py
-fi
-
 told "stands alone"

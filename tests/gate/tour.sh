@@ -117,7 +117,6 @@ if [ -x /usr/bin/python3 ]; then
 fi
 if has mypy "checking the types of the tour's tools"; then
   is_so "mypy has nothing to say of them" mypy_says --ignore-missing-imports tools/tour tools/tours/*.py
-  is_so "nor of what tests them" mypy_says --ignore-missing-imports tests/tour_browser.py tests/folded_states.py
 fi
 if has shellcheck "looking through this script"; then
   is_so "shellcheck has nothing to say of it" shellcheck -x tests/gate/tour.sh
