@@ -21,7 +21,7 @@ import sys
 import tempfile
 import time
 from pathlib import Path
-from typing import Callable, List, NamedTuple, Sequence, Tuple
+from typing import Callable, Dict, List, NamedTuple, Sequence, Tuple
 
 sys.path.insert(0, str(Path(__file__).resolve().parents[1] / "python"))
 from safetynet import Machine  # noqa: E402
@@ -69,7 +69,7 @@ def compare(program: str, image: Path, folder: Path, events: int) -> None:
     text = journal(program, image, events)
     Path(folder, "script").write_bytes(text)
     calls = {"replay": [program, "replay", "--nodes=4", str(image), str(folder / "script")], "drive": [program, "drive", "--nodes=4", str(image)]}
-    taken = {name: [] for name in calls}  # type: dict[str, List[Taken]]
+    taken: Dict[str, List[Taken]] = {name: [] for name in calls}
     for _ in range(TIMES):
         for name, words in calls.items():
             taken[name].append(timed(words, text if name == "drive" else b"", (folder / f"{name}.console", folder / f"{name}.report")))

@@ -7,29 +7,19 @@ PROGRAM is the built `safetynet`, SIMULATOR the simulator's program with the sam
 run ends by its budget of TURNS (1,000,000): on 1, 4 and 16 nodes, without losses and with every 97th message lost. The least
 of five times is told, in milliseconds, and the program's peak memory in bytes a turn, above that of a run of 1,000 turns.
 """
-import os
-import subprocess
 import sys
 import tempfile
-import time
 from pathlib import Path
-from typing import List, Tuple
+from typing import List
+
+from judge import taken
 
 WORDS = "800012b7 00100313 0062a3af 03f3f513 03050513 00100893 00000073 fedff06f"
 
 
-def taken(words: List[str]) -> Tuple[float, int]:
-    """Returns the seconds that a command took, and its peak memory in bytes."""
-    start = time.monotonic()
-    child = subprocess.Popen(words, stdout=subprocess.DEVNULL, stderr=subprocess.DEVNULL)
-    _, _, used = os.wait4(child.pid, 0)
-    child.returncode = 0
-    return time.monotonic() - start, used.ru_maxrss * 1024
-
-
 def least(words: List[str]) -> float:
     """The least of five times of a command, in milliseconds."""
-    return min(taken(words)[0] for _ in range(5)) * 1000
+    return min(taken(words, may_fail=True)[0] for _ in range(5)) * 1000
 
 
 def main() -> int:
@@ -46,7 +36,7 @@ def main() -> int:
             for losses in (0, 97):
                 words = ["run", str(text), "--nodes", str(nodes), "--lose-every", str(losses), "--budget"]
                 here, there = (least([it, *words, str(turns)]) for it in (program, simulator))
-                most, few = (taken([program, *words, str(it)])[1] for it in (turns, 1000))
+                most, few = (taken([program, *words, str(it)], may_fail=True)[1] for it in (turns, 1000))
                 share = (most - few) / (turns - 1000)
                 print(f"{nodes:5}  {losses:6}  {here:10.0f}  {there:12.0f}  {here / there:5.2f}  {share:12.1f}")
     return 0

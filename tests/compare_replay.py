@@ -22,7 +22,7 @@ import tempfile
 from pathlib import Path
 from typing import Dict, List, Sequence, Tuple, Union
 
-from outcomes import Outcome, without_reason
+from outcomes import Outcome, called, without_reason
 
 ECALL = 0x73
 
@@ -209,18 +209,27 @@ def script(choose: random.Random, simulator: str, nodes: int, folder: Union[str,
     return choose.choice([text, text, text.rstrip()])
 
 
-def sizes(choose: random.Random) -> Dict[str, Value]:
-    """Some of the sizes of a machine and, now and then, a watched word."""
+def sizes(choose: random.Random, is_watched: bool = True) -> Dict[str, Value]:
+    """Some of the sizes of a machine and, if it is watched, now and then a word."""
     every: List[Tuple[str, Value]] = [
-        ("sets", choose.choice([1, 2, 4, 16, 256])), ("ways", choose.choice([1, 2, 4, 16])),
-        ("log", choose.choice([4, 5, 8, 64, 4096])), ("watch", watched(choose)),
+        ("sets", choose.choice([1, 2, 4, 16, 256])), ("ways", choose.choice([1, 2, 4, 16])), ("log", choose.choice([4, 5, 8, 64, 4096])),
     ]
+    every += [("watch", watched(choose))] if is_watched else []
     return {name: value for name, value in every if choose.random() < 0.6}
 
 
-def options(choose: random.Random, values: Dict[str, Value]) -> List[List[str]]:
-    """The words of each option, in one of its two forms."""
-    return [choose.choice([[f"--{name}", str(value)], [f"--{name}={value}"]]) for name, value in values.items()]
+def options(choose: random.Random, values: Dict[str, Value], flags: Sequence[str] = ()) -> List[List[str]]:
+    """Each option in one of its two forms, and the flags, in any order."""
+    parts = [choose.choice([[f"--{name}", str(value)], [f"--{name}={value}"]]) for name, value in values.items()] + [[flag] for flag in flags]
+    choose.shuffle(parts)
+    return parts
+
+
+def with_files(choose: random.Random, parts: List[List[str]], names: Sequence[str]) -> List[str]:
+    """The files in their order among the options."""
+    for place, name in enumerate(names):
+        parts.insert(choose.randrange(len(parts) + 1) if place == 0 else len(parts), [name])
+    return sum(parts, [])
 
 
 def words(choose: random.Random, nodes: int) -> List[str]:
@@ -233,10 +242,7 @@ def words(choose: random.Random, nodes: int) -> List[str]:
         if choose.random() < 0.05:
             name, value = choose.choice(WRONG)
             values[name] = value
-    parts = options(choose, values) + [[flag] for flag in flags]
-    choose.shuffle(parts)
-    place = choose.randrange(len(parts) + 1)
-    return sum(parts[:place], []) + ["program"] + sum(parts[place:], []) + ["events.script"]
+    return with_files(choose, options(choose, values, flags), ["program", "events.script"])
 
 
 def watched(choose: random.Random) -> str:
@@ -248,8 +254,7 @@ def watched(choose: random.Random) -> str:
 
 def run(command: Sequence[str], words: Sequence[str], folder: Union[str, Path], name: str = "replay") -> Outcome:
     """What a command of a program comes to, with these words."""
-    done = subprocess.run([*command, name, *words], cwd=folder, capture_output=True)
-    return without_reason((done.returncode, done.stdout, done.stderr))
+    return without_reason(called([*command, name, *words], folder))
 
 
 def main() -> int:

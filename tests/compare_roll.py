@@ -113,11 +113,7 @@ def words(choose: random.Random, nodes: int) -> List[str]:
         if choose.random() < 0.05:
             name, value = choose.choice(WRONG)
             values[name] = value
-    parts = compare_replay.options(choose, values)
-    choose.shuffle(parts)
-    for place, name in enumerate(["program", "events.script", "calls.control"]):
-        parts.insert(choose.randrange(len(parts) + 1) if place == 0 else len(parts), [name])
-    return sum(parts, [])
+    return compare_replay.with_files(choose, compare_replay.options(choose, values), ["program", "events.script", "calls.control"])
 
 
 def main() -> int:

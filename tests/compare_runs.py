@@ -18,7 +18,7 @@ from pathlib import Path
 from typing import Callable, Dict, List, Optional, Sequence, Tuple, Union
 
 from compare_replay import hexadecimal_image, program
-from outcomes import without_reason
+from outcomes import called, without_reason
 
 # What is wrong with a run, and how it ended.
 Verdict = Tuple[List[str], str]
@@ -29,8 +29,7 @@ ENDS = {0: "exited", 6: "budget", 8: "cut off", 10: "trapped"}
 
 def call(command: Sequence[str], words: Sequence[str], folder: Union[str, Path]) -> Tuple[int, bytes, List[str]]:
     """Status, console and the report's lines of a call, without the line that says why."""
-    done = subprocess.run([*command, *words], cwd=folder, capture_output=True)
-    status, console, report = without_reason((done.returncode, done.stdout, done.stderr))
+    status, console, report = without_reason(called([*command, *words], folder))
     return status, console, report.decode().splitlines()
 
 

@@ -28,6 +28,7 @@ from typing import NamedTuple
 
 sys.path.insert(0, str(Path(__file__).resolve().parent))
 import compare_replay  # noqa: E402
+from compare_replay import Value, options, sizes, with_files  # noqa: E402
 from outcomes import is_explained, without_reason  # noqa: E402
 from served_program import ServedProgram, built_server  # noqa: E402
 
@@ -198,36 +199,25 @@ def spoiled(choose: random.Random, save: bytes, nodes: int) -> bytes:
     return data
 
 
-def options(choose: random.Random, values: dict[str, object]) -> list[list[str]]:
-    """Each option in one of its two forms, in any order."""
-    parts = [choose.choice([[f"--{name}", str(value)], [f"--{name}={value}"]]) for name, value in values.items()]
-    choose.shuffle(parts)
-    return parts
-
-
-def with_files(choose: random.Random, parts: list[list[str]], names: list[str]) -> list[str]:
-    """The files in their order among the options."""
-    for place, name in enumerate(names):
-        parts.insert(choose.randrange(len(parts) + 1) if place == 0 else len(parts), [name])
-    return sum(parts, [])
+# Options that `save` and `resume` don't have, or whose values are out of their range.
+WRONG_SAVE: list[tuple[str, Value]] = [("nodes", 0), ("nodes", 17), ("sets", 257), ("log", 3), ("watch", "80001000"), ("nodes", "4x")]
+WRONG_RESUME: list[tuple[str, Value]] = [("nodes", 2), ("watch", "80000001"), ("watch", "8")]
 
 
 def save_words(choose: random.Random, nodes: int) -> list[str]:
-    values: dict[str, object] = {"nodes": nodes}
+    values: dict[str, Value] = {"nodes": nodes}
     if choose.random() < 0.5:
-        values |= {name: value for name, value in [
-            ("sets", choose.choice([1, 2, 4, 16, 256])), ("ways", choose.choice([1, 2, 4, 16])), ("log", choose.choice([4, 5, 8, 64, 4096])),
-        ] if choose.random() < 0.6}
+        values |= sizes(choose, is_watched=False)
         if choose.random() < 0.03:
-            name, value = choose.choice([("nodes", 0), ("nodes", 17), ("sets", 257), ("log", 3), ("watch", "80001000"), ("nodes", "4x")])
+            name, value = choose.choice(WRONG_SAVE)
             values[name] = value
     return ["save", *with_files(choose, options(choose, values), [PROGRAM, EVENTS])]
 
 
 def resume_words(choose: random.Random) -> list[str]:
-    values: dict[str, object] = {"watch": compare_replay.watched(choose)} if choose.random() < 0.4 else {}
+    values: dict[str, Value] = {"watch": compare_replay.watched(choose)} if choose.random() < 0.4 else {}
     if choose.random() < 0.02:
-        name, value = choose.choice([("nodes", 2), ("watch", "80000001"), ("watch", "8")])
+        name, value = choose.choice(WRONG_RESUME)
         values[name] = value
     return ["resume", *with_files(choose, options(choose, values), [PROGRAM, SAVE, LATER])]
 

@@ -14,15 +14,13 @@ and the simulator has too: `judge` and the option `--order` are left out. Lines 
 that mean something to the simulator alone.
 """
 import random
-import re
-import subprocess
 import sys
 import tempfile
 from collections import Counter
 from pathlib import Path
 from typing import Dict, List, Sequence, Tuple
 
-from outcomes import Outcome, is_explained, seen_last, without_reason
+from outcomes import Outcome, called, commands_of, is_explained, seen_last, without_reason
 
 # A command's files, options with a value, and flags.
 COMMANDS: Dict[str, Tuple[List[str], List[str], List[str]]] = {
@@ -159,12 +157,6 @@ def line(choose: random.Random, commands: Sequence[str]) -> List[str]:
     return words
 
 
-def commands_of(built: str) -> List[str]:
-    """The commands that the program's page names."""
-    page = subprocess.run([built, "--help"], capture_output=True, text=True).stdout
-    return [name for name in COMMANDS if re.search(rf"^  {name} +[A-Z]", page, re.MULTILINE)]
-
-
 def is_left_out(words: Sequence[str], commands: Sequence[str]) -> bool:
     """Whether the program answers these words itself, or the simulator has no such command."""
     is_own = len(words) == 0 or words[0] in ANSWERED_ITSELF or (len(words) == 2 and words[1] in ANSWERED_ITSELF)
@@ -179,11 +171,6 @@ def is_same(words: Sequence[str], found: Outcome, expected: Outcome) -> bool:
     return has_turns or found == expected
 
 
-def run(command: Sequence[str], words: Sequence[str], folder: str) -> Outcome:
-    done = subprocess.run([*command, *words], cwd=folder, capture_output=True)
-    return done.returncode, done.stdout, done.stderr
-
-
 def main() -> int:
     if len(sys.argv) < 3:
         print(__doc__)
@@ -191,7 +178,7 @@ def main() -> int:
     built, simulator = (str(Path(name).resolve()) for name in sys.argv[1:3])
     count, seed = int(sys.argv[3]) if len(sys.argv) > 3 else 20_000, sys.argv[4] if len(sys.argv) > 4 else "1"
     statuses: Counter[int] = Counter()
-    commands, case, done = commands_of(built), 0, 0
+    commands, case, done = commands_of(built, COMMANDS), 0, 0
     with tempfile.TemporaryDirectory() as folder:
         for name, text in FILES.items():
             if name:
@@ -202,7 +189,7 @@ def main() -> int:
             if is_left_out(words, commands):
                 continue
             done += 1
-            found, expected = run([built], words, folder), run([simulator, "--main", "--probe"], words, folder)
+            found, expected = called([built, *words], folder), called([simulator, "--main", "--probe", *words], folder)
             if not is_same(words, without_reason(found), expected):
                 print(f"case {case}, {words}: {found} and not {expected}")
                 return 1

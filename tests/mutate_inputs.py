@@ -13,8 +13,6 @@ Both programs are started once and forked for each run, before their main (serve
 in the ordinary way too, with the same bytes.
 """
 import random
-import re
-import subprocess
 import sys
 import tempfile
 from concurrent.futures import ProcessPoolExecutor
@@ -23,7 +21,7 @@ from typing import Dict, List, Optional, Sequence, Tuple, Union
 
 sys.path.insert(0, str(Path(__file__).resolve().parent))
 import compare_replay  # noqa: E402
-from outcomes import Outcome, seen_last, without_reason  # noqa: E402
+from outcomes import Outcome, called, commands_of, seen_last, without_reason  # noqa: E402
 from served_program import ServedProgram, built_server  # noqa: E402
 
 STATUSES = {0, 1, 2, 3, 4, 5, 6, 7, 8, 9, 10, 12, 13}
@@ -177,18 +175,6 @@ def case_of(choose: random.Random, commands: Sequence[str]) -> Tuple[List[str], 
     return spoiled_words(choose, words), files
 
 
-def started(built: str, words: Sequence[str], folder: Path) -> Outcome:
-    """A run in the ordinary way: the program is started for it."""
-    done = subprocess.run([built, *words], cwd=folder, stdin=subprocess.DEVNULL, capture_output=True, timeout=SECONDS)
-    return done.returncode, done.stdout, done.stderr
-
-
-def commands_of(built: str) -> List[str]:
-    """The commands that the program's page names."""
-    page = subprocess.run([built, "--help"], capture_output=True, text=True, check=True).stdout
-    return [name for name in SHARES if re.search(rf"^  {name} +[A-Z]", page, re.MULTILINE)]
-
-
 def is_own(words: Sequence[str]) -> bool:
     """Whether the program answers by itself: with its own pages, or what the simulator doesn't know or knows as something else."""
     return not words or words[0] in OWN_COMMANDS or any(word.split("=")[0] in OWN_WORDS for word in words)
@@ -215,7 +201,7 @@ class Pair:
         library = built_server(folder)
         self.folder = Path(folder, "files")
         self.folder.mkdir()
-        self.built, self.commands = built, commands_of(built)
+        self.built, self.commands = built, commands_of(built, SHARES)
         self.program = ServedProgram(library, built, [], self.folder, SECONDS)
         self.other = ServedProgram(library, simulator, ["--main", "--probe"], self.folder, SECONDS)
 
@@ -229,7 +215,7 @@ class Pair:
             if not is_own(words) and seen_last(self.other.run(words)) != seen_last(without_reason(found)):
                 return f"case {case}, {words}: {found}, and the simulator: {self.other.run(words)}; {files}", found[0]
             others += [("once more", self.program.run(words))] if case % 4 == 0 else []
-            others += [("started for it", started(self.built, words, self.folder))] if case % 100 == 0 else []
+            others += [("started for it", called([self.built, *words], self.folder, SECONDS))] if case % 100 == 0 else []
         if found[0] not in STATUSES:
             return f"case {case}, {words}: status {found[0]}; {found}; {files}", found[0]
         for name, other in others:

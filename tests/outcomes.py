@@ -1,6 +1,8 @@
 """What a call of the program comes to: its status, what it wrote to standard output, and what to standard error."""
 import re
-from typing import Optional, Tuple, TypeVar
+import subprocess
+from pathlib import Path
+from typing import Iterable, List, Optional, Sequence, Tuple, TypeVar, Union
 
 # A status, and what was written to standard output and to standard error.
 Outcome = Tuple[int, bytes, bytes]
@@ -10,6 +12,18 @@ Status = TypeVar("Status", bound=Optional[int])
 
 # The line that says why a call isn't done. The reference simulator has none.
 REASON = re.compile(rb"^# why: [^\n]*\n", re.MULTILINE)
+
+
+def called(command: Sequence[str], folder: Union[str, Path], seconds: Optional[float] = None) -> Outcome:
+    """A call in the ordinary way: the program is started for it."""
+    done = subprocess.run(command, cwd=folder, stdin=subprocess.DEVNULL, capture_output=True, timeout=seconds)
+    return done.returncode, done.stdout, done.stderr
+
+
+def commands_of(built: str, names: Iterable[str]) -> List[str]:
+    """Those of these commands that the program's page names."""
+    page = subprocess.run([built, "--help"], capture_output=True, text=True, check=True).stdout
+    return [name for name in names if re.search(rf"^  {name} +[A-Z]", page, re.MULTILINE)]
 
 
 def without_reason(outcome: Tuple[Status, bytes, bytes]) -> Tuple[Status, bytes, bytes]:
