@@ -86,7 +86,10 @@ def compared(program: str, simulator: str, words: List[str], room: Path) -> Tupl
     return min(own), min(other)
 
 
-def main() -> None:
+def main() -> int:
+    if len(sys.argv) < 3:
+        print(__doc__)
+        return 2
     program, simulator = sys.argv[1:3]
     count = int(sys.argv[3]) if len(sys.argv) > 3 else 1_000_000
     with tempfile.TemporaryDirectory() as name:
@@ -104,7 +107,8 @@ def main() -> None:
             own, other = compared(program, simulator, words, room)
             figures = [f"{it.seconds * 1000:.0f}, {it.memory / 2**20:.0f}" for it in (own, other)]
             print(f"{what}  {count}  {figures[0]}  {figures[1]}", flush=True)
+    return 0
 
 
 if __name__ == "__main__":
-    main()
+    sys.exit(main())
