@@ -11,7 +11,7 @@ from __future__ import annotations
 import sys
 import time
 from collections import Counter
-from typing import Any, List, Optional, Tuple, Type
+from typing import Any, List, Optional, Tuple
 
 from safetynet import Deliver, Edge, Event, Evict, Hop, Lose, Machine, Recover, SafetyNetError, Step, Trace, assemble, check
 
@@ -84,53 +84,49 @@ def judge(machine: Machine, program: List[int], limit: Limit) -> None:
     limit.has_found = had_found
 
 
-def fuzzed(program: List[int], nodes: int, limit: Limit) -> Type[RuleBasedStateMachine]:
-    """The stateful test of a program on so many nodes."""
+class Fuzzed(RuleBasedStateMachine):
+    """The stateful test of a program on so many nodes: a machine, and the rules by which it is driven; none once the time is over."""
 
-    class Fuzzed(RuleBasedStateMachine):
-        """A machine, and the rules by which it is driven; none once the time is over."""
+    def __init__(self, program: List[int], nodes: int, limit: Limit) -> None:
+        super().__init__()
+        self.program, self.nodes, self.limit = program, nodes, limit
+        self.is_idle = limit.is_late()
+        if not self.is_idle:
+            self.machine = Machine(program, nodes=nodes)
 
-        def __init__(self) -> None:
-            super().__init__()
-            self.is_idle = limit.is_late()
-            if not self.is_idle:
-                self.machine = Machine(program, nodes=nodes)
+    @precondition(lambda self: not self.is_idle)
+    @rule(drawn=strategies.lists(DRAWN, min_size=1, max_size=24))
+    def burst(self, drawn: List[Drawn]) -> None:
+        flight = InFlight.of(self.machine)
+        ids = sorted(flight.messages) + [flight.last + 1, flight.last + 2]
+        self.machine.apply_all([event_of(one, self.nodes, ids) for one in drawn])
 
-        @precondition(lambda self: not self.is_idle)
-        @rule(drawn=strategies.lists(DRAWN, min_size=1, max_size=24))
-        def burst(self, drawn: List[Drawn]) -> None:
-            flight = InFlight.of(self.machine)
-            ids = sorted(flight.messages) + [flight.last + 1, flight.last + 2]
-            self.machine.apply_all([event_of(one, nodes, ids) for one in drawn])
+    @precondition(lambda self: not self.is_idle)
+    @rule(number=strategies.integers(0, 3))
+    def settle(self, number: int) -> None:
+        steps = [Step(node) for node in range(self.nodes)] * number
+        self.machine.apply_all([*steps, *moves(InFlight.of(self.machine), 4)])
 
-        @precondition(lambda self: not self.is_idle)
-        @rule(number=strategies.integers(0, 3))
-        def settle(self, number: int) -> None:
-            steps = [Step(node) for node in range(nodes)] * number
-            self.machine.apply_all([*steps, *moves(InFlight.of(self.machine), 4)])
+    @precondition(lambda self: not self.is_idle)
+    @rule()
+    def validate(self) -> None:
+        checkpoint(self.machine)
 
-        @precondition(lambda self: not self.is_idle)
-        @rule()
-        def validate(self) -> None:
-            checkpoint(self.machine)
+    @precondition(lambda self: not self.is_idle and self.machine.mark() > 0)
+    @rule()
+    def recover(self) -> None:
+        self.machine.apply(Recover())
+        judge(self.machine, self.program, self.limit)
 
-        @precondition(lambda self: not self.is_idle and self.machine.mark() > 0)
-        @rule()
-        def recover(self) -> None:
-            self.machine.apply(Recover())
-            judge(self.machine, program, limit)
+    @precondition(lambda self: self.is_idle)
+    @rule()
+    def rest(self) -> None:
+        """The one rule that is left once the time is over."""
 
-        @precondition(lambda self: self.is_idle)
-        @rule()
-        def rest(self) -> None:
-            """The one rule that is left once the time is over."""
-
-        def teardown(self) -> None:
-            if not self.is_idle:
-                judge(self.machine, program, limit)
-                self.machine.close()
-
-    return Fuzzed
+    def teardown(self) -> None:
+        if not self.is_idle:
+            judge(self.machine, self.program, self.limit)
+            self.machine.close()
 
 
 def main(words: Any = None) -> Optional[int]:
@@ -147,8 +143,13 @@ def main(words: Any = None) -> Optional[int]:
         database=None,
         suppress_health_check=list(HealthCheck),
     )
-    test = seed(chosen.seed)(fuzzed(assemble(ADDITIONS), chosen.nodes, limit))
-    run_state_machine_as_test(test, settings=drawn)
+    program = assemble(ADDITIONS)
+
+    @seed(chosen.seed)
+    def made() -> Fuzzed:
+        return Fuzzed(program, chosen.nodes, limit)
+
+    run_state_machine_as_test(made, settings=drawn)
     most = f"at most {chosen.examples}" if limit.was_late else str(chosen.examples)
     print(f"{most} lists of events on {chosen.nodes} nodes: every recovery point is a consistent cut")
     return None

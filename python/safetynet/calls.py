@@ -9,7 +9,7 @@ from __future__ import annotations
 import os
 import re
 from dataclasses import replace
-from typing import List, Optional, Sequence, Tuple, Union
+from typing import List, Optional, Pattern, Sequence, Tuple, Union
 
 from .access import Access, parse_accesses
 from .backends import Loaded
@@ -23,8 +23,8 @@ from .statistics import parted_statistics
 from .trace import Trace
 
 _LEGAL = re.compile(r"legal (0|[1-9][0-9]*)\n")
-_REFUSED = re.compile(r"refused ([1-9][0-9]*)\n")
-# The verdict on accesses, with the line that says why.
+# The verdict on a trace, and that on accesses, whose second line says why.
+_REFUSED = re.compile(r"refused ([1-9][0-9]*)\n()")
 _REFUSED_ACCESS = re.compile(r"refused ([1-9][0-9]*)\n((?:expected (?:[0-9a-f]{2}|[0-9a-f]{4}|[0-9a-f]{8})|unreserved) since (?:0|[1-9][0-9]*))\n")
 _WORD = re.compile(r"[0-9a-f]{8}")
 _SWITCH_AT = re.compile(r"[ab](0|[1-9][0-9]*)@(0|[1-9][0-9]*)")
@@ -65,6 +65,14 @@ def read_accesses(text: str) -> Tuple[Tuple[Access, ...], Summary]:
     if len(found) != summary.committed:
         raise ReportError(f"{len(found)} accesses aren't those of {summary.committed} records")
     return found, summary
+
+
+def _done(words: Sequence[str], files: Files, command: Optional[PathLike], timeout: float) -> Called:
+    """A call with these files that is done. SafetyNetError: the program refuses it."""
+    called = call(words, files.contents, command=command, timeout=timeout)
+    if called.status != 0:
+        called.raise_refusal()
+    return called
 
 
 def replay(
@@ -114,9 +122,7 @@ def replay(
     words += ["--trace"] if trace else []
     words += ["--statistics"] if statistics else []
     words += [files.program(program), files.script(script)]
-    called = call(words, files.contents, command=command, timeout=timeout)
-    if called.status != 0:
-        called.raise_refusal()
+    called = _done(words, files, command, timeout)
     if trace:
         committed, summary = read_traced(called.report)
         return Replay((), summary, called.console, committed)
@@ -160,9 +166,7 @@ def accesses(
     """
     files = Files()
     words = ["replay", *options(nodes=nodes, sets=sets, ways=ways, log=log), "--accesses", files.program(program), files.script(script)]
-    called = call(words, files.contents, command=command, timeout=timeout)
-    if called.status != 0:
-        called.raise_refusal()
+    called = _done(words, files, command, timeout)
     return read_accesses(called.report)[0]
 
 
@@ -317,9 +321,7 @@ def runs(
     sizes = options(nodes=nodes, sets=sets, ways=ways, log=log)
     rules = options(interval=interval, wait=wait, budget=budget, lose_every=lose_every)
     words = ["run", *sizes, *rules, *_run_options(order, kill, watch, statistics), f"--seeds={numbers[0]}-{numbers[-1]}"]
-    called = call([*words, files.program(program)], files.contents, command=command, timeout=timeout)
-    if called.status != 0:
-        called.raise_refusal()
+    called = _done([*words, files.program(program)], files, command, timeout)
     return _runs_of(called, numbers, statistics)
 
 
@@ -371,12 +373,16 @@ def check(
     """
     files = Files()
     words = ["check", *options(nodes=nodes), files.program(program), files.trace(trace)]
-    called = call(words, files.contents, command=command, timeout=timeout)
-    legal, refused = _LEGAL.fullmatch(called.report), _REFUSED.fullmatch(called.report)
+    return _verdict_of(call(words, files.contents, command=command, timeout=timeout), _REFUSED)
+
+
+def _verdict_of(called: Called, refusal: Pattern[str]) -> Verdict:
+    """The verdict of a call, whose report has this form where it isn't legal; the form's second part says why, if the program says no more."""
+    legal, refused = _LEGAL.fullmatch(called.report), refusal.fullmatch(called.report)
     if called.status == 0 and legal:
         return Verdict(True, records=int(legal[1]))
     if called.status == 9 and refused and called.words == f"refused {refused[1]}":
-        return Verdict(False, place=int(refused[1]), why=called.why)
+        return Verdict(False, place=int(refused[1]), why=called.why or refused[2] or None)
     if called.status in (0, 9):
         raise ReportError("it is no verdict", 1, called.report.split("\n")[0], called.status)
     called.raise_refusal()
@@ -398,14 +404,7 @@ def judge(accesses: Union[PathLike, bytes], *, command: Optional[PathLike] = Non
     """
     files = Files()
     called = call(["judge", files.named("accesses", accesses)], files.contents, command=command, timeout=timeout)
-    legal, refused = _LEGAL.fullmatch(called.report), _REFUSED_ACCESS.fullmatch(called.report)
-    if called.status == 0 and legal:
-        return Verdict(True, records=int(legal[1]))
-    if called.status == 9 and refused and called.words == f"refused {refused[1]}":
-        return Verdict(False, place=int(refused[1]), why=called.why or refused[2])
-    if called.status in (0, 9):
-        raise ReportError("it is no verdict", 1, called.report.split("\n")[0], called.status)
-    called.raise_refusal()
+    return _verdict_of(called, _REFUSED_ACCESS)
 
 
 def assemble(
@@ -425,9 +424,7 @@ def assemble(
     """
     files = Files()
     given = text.encode("utf-8", "surrogateescape") if isinstance(text, str) else text
-    called = call(["asm", files.named("text", given)], files.contents, command=command, timeout=timeout)
-    if called.status != 0:
-        called.raise_refusal()
+    called = _done(["asm", files.named("text", given)], files, command, timeout)
     words = []
     for number, line in enumerate(called.console.decode("ascii", "replace").splitlines(), 1):
         if not _WORD.fullmatch(line):
@@ -445,9 +442,7 @@ def disassemble(program: ProgramLike, *, command: Optional[PathLike] = None, tim
         The program is refused.
     """
     files = Files()
-    called = call(["dis", files.program(program)], files.contents, command=command, timeout=timeout)
-    if called.status != 0:
-        called.raise_refusal()
+    called = _done(["dis", files.program(program)], files, command, timeout)
     return called.console.decode("ascii")
 
 
@@ -467,7 +462,4 @@ def demo(size: int, *, command: Optional[PathLike] = None, timeout: float = DEFA
         The size is refused.
     """
     options(size=size)
-    called = call(["demo", str(size)], command=command, timeout=timeout)
-    if called.status != 0:
-        called.raise_refusal()
-    return _run_of(called, "", False)
+    return _run_of(_done(["demo", str(size)], Files(), command, timeout), "", False)

@@ -137,10 +137,15 @@ def call(
         Its last line doesn't say how it ended.
     """
     program = find_program(command)
+    return called_of(*_ended([str(program), *words], files, timeout))
+
+
+def _ended(words: Sequence[str], files: Mapping[str, bytes], timeout: float) -> Tuple[int, bytes, bytes]:
+    """Status, standard output and standard error of a process in a folder of its own, where these files are."""
     with tempfile.TemporaryDirectory(prefix="safetynet-") as folder:
         for name, content in files.items():
             Path(folder, name).write_bytes(content)
-        process = started([str(program), *words], folder)
+        process = started(words, folder)
         try:
             console, error_text = process.communicate(timeout=timeout)
         except BaseException as error:
@@ -148,7 +153,7 @@ def call(
             if isinstance(error, subprocess.TimeoutExpired):
                 raise timeout_error(timeout) from None
             raise
-    return called_of(process.returncode, console, error_text)
+    return process.returncode, console, error_text
 
 
 def started(words: Sequence[str], folder: str, stdin: int = subprocess.DEVNULL) -> "subprocess.Popen[bytes]":

@@ -15,6 +15,7 @@ from ..events import Deliver, Edge, Event, Evict, Hop, Lose, Recover, Report, St
 from ..machine import Machine
 from ..program import PathLike
 from ..report import Answer, Core
+from ..results import Run
 from .model import DATA, Register, State, Test
 from .translation import ENTRY, Translation, translate
 
@@ -180,25 +181,26 @@ class Runner:
             A core trapped.
         """
         addresses = [self.test.addresses[it.name] for it in self.test.observed if not isinstance(it, Register)]
-        of_address = {
-            address: runs(
-                self.translation.image,
-                seeds,
-                nodes=self.nodes,
-                interval=INTERVAL,
-                wait=WAIT,
-                budget=MOST_EVENTS,
-                lose_every=LOSE_EVERY if losses else 0,
-                watch=address,
-                command=self.command,
-            )
-            for address in addresses or [DATA]
-        }
+        of_address = {address: self._watched(seeds, losses, address) for address in addresses or [DATA]}
         states: List[Optional[State]] = []
         for alike in zip(*of_address.values()):
             words = {address: one.summary.watches[0].word for address, one in zip(of_address, alike)}
             states.append(self.state_at(alike[0].summary.cores, words.__getitem__))
         return tuple(states)
+
+    def _watched(self, seeds: Sequence[int], losses: bool, address: int) -> Tuple[Run, ...]:
+        """The runs by workers, with the word at this address in their summaries."""
+        return runs(
+            self.translation.image,
+            seeds,
+            nodes=self.nodes,
+            interval=INTERVAL,
+            wait=WAIT,
+            budget=MOST_EVENTS,
+            lose_every=LOSE_EVERY if losses else 0,
+            watch=address,
+            command=self.command,
+        )
 
     def _gone_on(self, machine: Machine, schedule: "Schedule", ends: float) -> Optional[State]:
         progress = Progress(self.nodes)
