@@ -69,6 +69,7 @@ def journal(choose: random.Random, built: str, words: Sequence[str], folder: Pat
 
 
 def random_case(choose: random.Random, built: str, number: int, folder: Path) -> Case:
+    """A program and a script at random, on a machine of any size."""
     nodes = choose.choice([1, 2, 2, 3, 4, 4, 6, 8, 16])
     file = choose.choice([hexadecimal_image, elf_file])(choose, program(choose))
     Path(folder, "program").write_bytes(file)

@@ -40,6 +40,19 @@ class Memory:
         """The last access that wrote one of these bytes, or 0."""
         return max(self.writer.get(address + k, 0) for k in range(size))
 
+    def do(self, core: int, op: str, address: int, size: int, value: int, place: int) -> None:
+        """Does a legal access: what it writes, and the reservations that it makes and ends."""
+        block = address // BLOCK
+        if op in ("w", "sc", "amo"):
+            self.store(address, size, value, place)
+            for other in [n for n, b in self.reserved.items() if n != core and b == block]:
+                del self.reserved[other]
+        if op == "lr":
+            self.reserved[core] = block
+        if op in ("sc", "scfail"):
+            self.reserved.pop(core, None)
+        self.history.append((core, op, address, size))
+
     def ended(self, core: int, block: int) -> int:
         """The last access that ended a reservation of the block by the core, or would have; or 0."""
         for place in range(len(self.history), 0, -1):
@@ -76,15 +89,7 @@ def judge(text: str) -> str:
             return f"refused {place}\nexpected {expected} since {memory.since(address, size)}\n"
         if op == "sc" and memory.reserved.get(core) != block:
             return f"refused {place}\nunreserved since {memory.ended(core, block)}\n"
-        if op in ("w", "sc", "amo"):
-            memory.store(address, size, value, place)
-            for other in [n for n, b in memory.reserved.items() if n != core and b == block]:
-                del memory.reserved[other]
-        if op == "lr":
-            memory.reserved[core] = block
-        if op in ("sc", "scfail"):
-            memory.reserved.pop(core, None)
-        memory.history.append((core, op, address, size))
+        memory.do(core, op, address, size, value, place)
     return f"legal {place}\n"
 
 
@@ -110,14 +115,7 @@ def legal_list(rng: random.Random) -> list[str]:
             value = now
         old = f" {now:0{2 * size}x}" if op == "amo" else ""
         lines.append(f"{core} {op} {address:08x} {size} {value:0{2 * size}x}{old}")
-        if op in ("w", "sc", "amo"):
-            memory.store(address, size, value, 1)
-            for other in [n for n, b in memory.reserved.items() if n != core and b == block]:
-                del memory.reserved[other]
-        if op == "lr":
-            memory.reserved[core] = block
-        if op in ("sc", "scfail"):
-            memory.reserved.pop(core, None)
+        memory.do(core, op, address, size, value, 1)
     return starts + lines
 
 

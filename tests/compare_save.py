@@ -29,7 +29,7 @@ from typing import NamedTuple
 sys.path.insert(0, str(Path(__file__).resolve().parent))
 import compare_replay  # noqa: E402
 from compare_replay import Value, options, sizes, with_files  # noqa: E402
-from outcomes import is_explained, without_reason  # noqa: E402
+from outcomes import Outcome, is_explained, without_reason  # noqa: E402
 from served_program import ServedProgram, built_server  # noqa: E402
 
 # The longest that a call may take.
@@ -47,7 +47,6 @@ KINDS = {"number": 26, "digit": 28, "marks": 8, "crowded": 12, "letter": 8, "lef
          "moved": 4, "blanks": 2, "zero": 2}
 
 # How a call ended, and what it wrote to the console and the report.
-Outcome = tuple[int, bytes, bytes]
 
 
 class Difference(NamedTuple):

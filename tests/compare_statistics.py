@@ -127,6 +127,7 @@ class Fold:
         self.flights = 0
 
     def add(self, group: Group) -> None:
+        """Counts what a group of the report comes to."""
         self.events += 1
         self.answers[group.answer] += 1
         retired, validated = group.answer == "retired", group.answer == "validated"
@@ -186,6 +187,7 @@ class Fold:
             self.lead = None
 
     def recover(self, group: Group) -> None:
+        """Counts a recovery: what led to it, what it undoes and drops, and the line that tells of it."""
         point, entries, dropped = group.said
         self.leads[self.lead or "wait"] += 1
         self.lead = None

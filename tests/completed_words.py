@@ -52,6 +52,7 @@ def excluded_by(command: str, option: str) -> List[str]:
 
 
 def option_cases(command: str) -> List[Case]:
+    """A command's options: each by its first letters, those that are left behind another, and the values of those that have few."""
     options, values = read_command(command).options, values_of(command)
     all_with = [it for it in [*options, *CALLS_FOR_A_PAGE] if it.startswith("--v")]
     cases = [Case([command, "-"], [*options, *CALLS_FOR_A_PAGE]), Case([command, "--v"], all_with)]

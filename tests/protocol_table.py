@@ -208,6 +208,7 @@ class Protocol:
                 yield " | ".join([name, *map("; ".join, columns)])
 
     def compared(self, page: str) -> Iterator[Compared]:
+        """What is said in more places than one: a name for it, and what each place says."""
         noted = [it for it in self.bodies if "Noted" in self.outcomes.get(it, "")]
         yield "Bodies with an event", {"sn_msg": sorted(self.bodies), "sn_coherence": sorted({it.body for it in self.deliveries})}
         yield "Bodies with an outcome", {"sn_msg": sorted(self.bodies), "sn_model": sorted(self.outcomes)}

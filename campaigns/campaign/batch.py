@@ -113,6 +113,7 @@ def run_batch(plan: Plan, batch: Batch) -> None:
 
 
 def _finish(plan: Plan, batch: Batch) -> None:
+    """Does the runs that have no row yet, a row each as soon as it is done, and then puts the whole file in place."""
     part, file = plan.part(batch), plan.file(batch)
     rows = rows_so_far(part, batch)
     with open(part, "w", encoding="utf-8") as out:

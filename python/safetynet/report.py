@@ -305,6 +305,7 @@ def _fields(reader: _Reader, labels: Tuple[str, ...], text: str, what: str) -> T
 
 
 def _message(reader: _Reader) -> Message:
+    """The message of a line, whose last numbers are named by its kind."""
     found = reader.found(_MESSAGE, "a message")
     identity, kind, source, destination, tag, block, rest, lost = found.groups()
     if kind not in MESSAGES:
@@ -327,6 +328,7 @@ def _message(reader: _Reader) -> Message:
 
 
 def _core(reader: _Reader, node: int) -> Core:
+    """The core of a line: of this node, with its registers in their order and none that is 0."""
     found = reader.found(_CORE, "a core")
     number, pc, running, code, cause, rest = found.groups()
     if int(number) != node:

@@ -38,6 +38,7 @@ CAUSES = {"Illegal": "illegal", "FetchFault": "fetch", "MisalignedTarget": "targ
 
 
 def load_definitions() -> World:
+    """The machine's definitions."""
     world = World(repository(), ["sn_base", "sn_msg", "rv_core", "log_buffer", "route_plan", "sn_model"])
     # Memory's first blocks stand for all of it, and the core's step is left out.
     world.modules["sn_model", "Caches"].override("block_count", BLOCKS)

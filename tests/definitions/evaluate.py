@@ -55,6 +55,7 @@ class Parser:
         return token
 
     def expression(self) -> Tree:
+        """An expression as long as it goes: `if`, `let`, λ, or operators over applications."""
         token = self.peek()
         if token == "if":
             self.take()
@@ -115,6 +116,7 @@ class Parser:
         return token is not None and bool(token in ("(", "[", "record") or re.match(r"[A-Za-z_«\"]|\d", token)) and token not in ("then", "else", "in", "where")
 
     def atom(self) -> Tree:
+        """A name, a number, a text, the empty list, a record, or what stands in brackets; with the fields that are taken of it."""
         token = self.take()
         found: Tree
         if token == "(":
@@ -208,6 +210,7 @@ class Module:
         self.read(text)
 
     def read(self, text: str) -> None:
+        """Reads a file's entries: each begins in the first column."""
         text = re.sub(r"--[^\n]*", "", text)
         # variants under a name for all of them, as `told.Ready`, get plain names of their own
         for type_name, local in re.findall(r"^use Rattle\.[\w.]+\.(\w+)\.TheVariants as (\w+)$", text, re.M):
@@ -238,6 +241,7 @@ class Module:
                 self.clauses.setdefault(name.group(0), []).append(text)
 
     def use(self, text: str) -> None:
+        """Notes the names that a `use` brings, and where they come from."""
         match = re.match(r"Rattle\.(\w+)\.(?:specs|proofs)\.([\w.]+?)\.\{(.*)\}$", text, re.S)
         if not match:
             return
@@ -298,6 +302,7 @@ class Module:
         return self.meanings[name]
 
     def find(self, name: str) -> Meaning:
+        """What a name stands for in this file."""
         if name in self.overrides:
             return self.overrides[name]
         variant = self.variant_of(name)
@@ -367,6 +372,7 @@ class Module:
         return found
 
     def pattern(self, tree: Tree) -> Tree:
+        """What was read as an expression, as a pattern of a clause."""
         kind = tree[0]
         if kind == "name":
             name = tree[1]

@@ -40,6 +40,7 @@ Line = Tuple[str, Optional[State]]
 
 
 def load_definitions() -> World:
+    """The definitions of the machine and of its states' lines, with what is evaluated once for each argument."""
     world = World(repository(), CRATES)
     world.modules["sn_model", "Caches"].override("block_count", BLOCKS)
     # Distances are recursions that branch at each switch; they, and the texts of parts, are evaluated once for each argument.

@@ -136,6 +136,7 @@ class Writer:
         return not tests
 
     def match(self, pattern: Tree, place: str, tests: List[str], places: Dict[str, str]) -> None:
+        """Adds the tests by which the value that stands there fits the pattern, and where each of its names stands."""
         kind = pattern[0]
         if kind == "bind":
             places[pattern[1]] = place

@@ -153,6 +153,7 @@ class _Reader:
         return closing + 1
 
     def item(self, part: _Part) -> None:
+        """Notes an initial value, of a variable or of a register."""
         place = self.start(part)
         found = _ITEM.fullmatch(part.text)
         if found is None:
@@ -201,6 +202,7 @@ class _Reader:
         return part.place + len(part.text) - len(part.text.lstrip())
 
     def thread(self, column: List[_Part]) -> Thread:
+        """The thread whose cells stand below one another: its instructions, and where its labels lead."""
         instructions: List[Instruction] = []
         labels: Dict[str, int] = {}
         places: List[int] = []

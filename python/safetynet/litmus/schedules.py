@@ -51,6 +51,7 @@ class Progress:
             self._note(answer)
 
     def _note(self, answer: Answer) -> None:
+        """Take in one answer, but for what was sent."""
         event = answer.event
         if isinstance(event, Edge) and answer.name == "edged":
             self.intervals[event.node] = answer.fields[0]
