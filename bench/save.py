@@ -37,7 +37,9 @@ class Taken(NamedTuple):
 
 def sum_of(file: Path) -> str:
     with file.open("rb") as opened:
-        return hashlib.file_digest(opened, "sha256").hexdigest() if sys.version_info >= (3, 11) else hashlib.sha256(opened.read()).hexdigest()
+        if sys.version_info >= (3, 11):
+            return hashlib.file_digest(opened, "sha256").hexdigest()
+        return hashlib.sha256(opened.read()).hexdigest()
 
 
 def taken(words: List[str], room: Path) -> Taken:

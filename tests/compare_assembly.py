@@ -96,7 +96,7 @@ def build(folder: Path) -> Path:
 
 
 def read(reader: Path, lines: Sequence[str]) -> List[List[str]]:
-    """The reader's lines for each of its input's lines."""
+    """The reader's lines for each of its input's lines, of which each has to be answered."""
     done = subprocess.run(["rt", "try", "--seconds", "500"], cwd=reader, input="".join(line + "\n" for line in lines), capture_output=True, text=True)
     said: List[str] = []
     answers: List[List[str]] = []
@@ -123,11 +123,12 @@ def compare_words(simulator: str, folder: Path, reader: Path, choose: random.Ran
     parts = [if_written[start : start + 50] for start in range(0, count, 50)]
     here = [line for lines in read(reader, ["dis " + " ".join(f"{word:08x}" for word in part) for part in parts]) for line in lines]
     there = instructions.disassembled(simulator, folder, if_written)
-    for word, mine, other in zip(if_written, here, there, strict=True):
+    instructions.must_pair(if_written, here, there)
+    for word, mine, other in zip(if_written, here, there):
         if mine != other:
             sys.exit(f"{word:08x}: here {mine}, there {other}")
     texts = ["\n".join(here[start : start + 50]).encode() for start in range(0, count, 50)]
-    for part, back in zip(parts, read(reader, [hexadecimal(text) for text in texts]), strict=True):
+    for part, back in zip(parts, read(reader, [hexadecimal(text) for text in texts])):
         if back != [f"{word:08x}" for word in part]:
             sys.exit(f"the lines of {part} are other words: {back}")
     print(f"{count} words have the same lines, {sum(not line.startswith('.word') for line in here)} of them instructions, and the lines give the words")
@@ -234,7 +235,7 @@ def compare_texts(simulator: str, folder: Path, reader: Path, choose: random.Ran
     """So many texts have the same words on both sides, or the same cause."""
     texts = [random_text(choose) for _ in range(count)]
     counts: Dict[str, int] = {}
-    for text, here in zip(texts, read(reader, [hexadecimal(text) for text in texts]), strict=True):
+    for text, here in zip(texts, read(reader, [hexadecimal(text) for text in texts])):
         cause = re.fullmatch(r"([A-Z]\w+)\(\d+\)", here[0]) if len(here) == 1 else None
         mine = [cause[1].lower()] if cause else here
         there = assembled(simulator, folder, text)
@@ -247,7 +248,7 @@ def compare_texts(simulator: str, folder: Path, reader: Path, choose: random.Ran
 def compare_examples(reader: Path) -> None:
     """The stored programs have the words of the files beside them."""
     files = sorted((Path(__file__).resolve().parent.parent / "examples" / "asm").glob("*.s"))
-    for file, here in zip(files, read(reader, [hexadecimal(file.read_bytes()) for file in files]), strict=True):
+    for file, here in zip(files, read(reader, [hexadecimal(file.read_bytes()) for file in files])):
         if here != file.with_suffix(".hex").read_text().split():
             sys.exit(f"{file.name} has other words than its .hex: {here}")
     print(f"{len(files)} programs of examples/asm have the words of their .hex files")

@@ -125,7 +125,7 @@ def main() -> int:
                 Path(folder, "program").write_bytes(hexadecimal_image(choose, program(choose)))
                 lines = trace(choose, simulator, nodes, folder)
             text = text_of(choose, lines, nodes)
-            Path(folder, "records.trace").write_text(text, newline="")
+            Path(folder, "records.trace").write_bytes(text.encode())
             given = ["check", *judged(choose, nodes), "program", "records.trace"]
             found, expected = judge.run(given), other.run(given)
             if without_reason(found) != expected:

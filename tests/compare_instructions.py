@@ -15,7 +15,7 @@ import subprocess
 import sys
 import tempfile
 from pathlib import Path
-from typing import List, Sequence
+from typing import List, Sequence, Sized
 
 sys.path.append(str(Path(__file__).resolve().parent.parent / "bench"))
 from small_repository import with_program  # noqa: E402
@@ -122,6 +122,13 @@ def read(reader: Path, lines: Sequence[str]) -> List[str]:
     return answers
 
 
+def must_pair(*lists: Sized) -> None:
+    """All of these have one length: each item has its answer."""
+    lengths = [len(it) for it in lists]
+    if len(set(lengths)) != 1:
+        sys.exit(f"of these each should have one: {lengths}")
+
+
 def disassembled(simulator: str, folder: Path, words: Sequence[int]) -> List[str]:
     """The simulator's lines of these words."""
     file = folder / "words.hex"
@@ -192,7 +199,8 @@ def compare_words(simulator: str, folder: Path, reader: Path, choose: random.Ran
     answers = read(reader, [" ".join(f"{word:08x}" for word in words[start : start + 50]) for start in range(0, count, 50)])
     texts = disassembled(simulator, folder, [plainly_written(word) for word in words])
     legal = 0
-    for word, answer, text in zip(words, answers, texts, strict=True):
+    must_pair(words, answers, texts)
+    for word, answer, text in zip(words, answers, texts):
         want = "Illegal" if text.startswith(".word") else f"{plainly_written(word):08x} {as_debug(text)}"
         legal += answer != "Illegal"
         if answer != want:
@@ -266,7 +274,8 @@ def compare_steps(simulator: str, folder: Path, reader: Path, choose: random.Ran
     programs += [random_program(choose, simulator, folder, 1, 0.05) for _ in range(4)]
     answers = read(reader, ["run " + " ".join(words) for words in programs])
     steps = 0
-    for words, answer in zip(programs, answers, strict=True):
+    must_pair(programs, answers)
+    for words, answer in zip(programs, answers):
         file = folder / "program.hex"
         file.write_text("".join(word + "\n" for word in words))
         done = subprocess.run([simulator, "run", str(file), "--nodes", "1", "--interval", "1000000"], capture_output=True, text=True)

@@ -13,6 +13,7 @@ import random
 import subprocess
 import sys
 import tempfile
+from typing import Optional
 
 RAM_START, RAM_END, BLOCK = 0x80000000, 0x80400000, 64
 
@@ -150,7 +151,7 @@ def said_by(program: str, text: str) -> str:
     return "".join(line + "\n" for line in done.stderr.splitlines() if not line.startswith("# "))
 
 
-def examples(program: str | None) -> int:
+def examples(program: Optional[str]) -> int:
     """How many of examples/judge differ from what stands beside them."""
     wrong = 0
     for path in sorted((pathlib.Path(__file__).parent.parent / "examples" / "judge").glob("*.accesses")):

@@ -119,7 +119,7 @@ def main() -> int:
                 ended += found
             whole += ended
             print(f"{name}: {len(tests)} tests, {calls} calls for memory; {told(ended)}", flush=True)
-    print(f"in all {whole.total()} runs: {told(whole)}")
+    print(f"in all {sum(whole.values())} runs: {told(whole)}")
     return 1 if whole[WRONG] else 0
 
 

@@ -51,8 +51,8 @@ if has shellcheck "looking through the shell's scripts"; then
   is_so "nor of what installs and tests" is_silent shellcheck -x tools/packages tests/gate/{installed,released,packages,pages,stands_alone}.sh
 fi
 if has mypy "checking the types of the tools, and of what tests and measures"; then
-  is_so "mypy has nothing to say of the tools" mypy_says tools/*.py tools/release
-  MYPYPATH=python:tools is_so "nor of what tests and measures" mypy_says --ignore-missing-imports {bench,tests,tests/definitions,tests/gate/lib}/*.py
+  is_so "mypy has nothing to say of the tools" mypy_says --python-version 3.9 tools/*.py tools/release
+  MYPYPATH=python:tools is_so "nor of what tests and measures" mypy_says --python-version 3.9 --ignore-missing-imports {bench,tests,tests/definitions,tests/gate/lib}/*.py
 fi
 
 told pages
