@@ -137,12 +137,30 @@ class Protocol:
         self.bodies = bodies_in(crates / "sn_msg/src/lib.rt")
         self.events, net = Module(crates / "sn_coherence/specs/Events.antt"), Module(crates / "sn_model/specs/NetEvents.antt")
         self.cache, self.home = Module(crates / "sn_model/specs/CacheRows.antt"), Module(crates / "sn_model/specs/HomeRows.antt")
+        self.receivers, self.net = Module(crates / "sn_model/specs/Receivers.antt"), net
         self.deliveries = [*self.each_delivery()]
-        self.outcomes = {body: net.reached(text, [*self.cache.types, *self.home.types]) for body, text in net.by_variant("outcome_of").items()}
+        self.outcomes = {body: self.outcome(text) for body, text in self.receivers.by_variant("receiver_of").items()}
         # the rows of `sn_model`, and what a node does that hears of a recovery point
         rows = [it for module in (self.cache, self.home) for it in module.types if module.types[it].endswith("Reply")]
         rows += [it for it in net.types if net.types[it].endswith("→ Node")]
         self.rows = {body: [it for it in rows if it in re.findall(r"\w+", text)] for body, text in self.outcomes.items()}
+
+    def outcome(self, receiver: str) -> str:
+        """What a message comes to by who takes it: the rows of its variant of the table's type, each by its function, and whether it waits."""
+        found = re.fullmatch(r"receiver\.(\w+) (?:\(?(?:row|asked)\.(\w+).*|k)", receiver)
+        by = self.net.by_variant("outcome_by")
+        if not found or found[1] not in by:
+            raise Unread(f"{self.receivers.file}: {receiver} isn't a receiver")
+        if found[1] == "Cache" and "cache_reply" in by["Cache"]:
+            return self.cache.by_variant("cache_reply")[found[2]]
+        if found[1] == "Home" and "outcome_at_home" in by["Home"]:
+            [(_, text)] = self.net.clauses("outcome_at_home")
+            if not {"is_request", "unless_busy", "home_reply", "home_row"} <= {*re.findall(r"\w+", text)}:
+                raise Unread(f"{self.net.file}: outcome_at_home doesn't go by is_request and home_row")
+            chosen = self.home.reached(self.home.by_variant("home_row")[found[2]], ["home_row"])
+            replies, waits = self.home.by_variant("home_reply"), self.home.by_variant("is_request")[found[2]] == "true"
+            return " ".join([*(replies[it] for it in re.findall(r"\brow\.(\w+)", chosen)), *(["unless_busy"] if waits else [])])
+        return self.net.reached(by[found[1]], [*self.cache.types, *self.home.types])
 
     def each_delivery(self) -> Iterator[Delivery]:
         allows, after = self.events.by_variant("Allows"), self.events.by_variant("after")

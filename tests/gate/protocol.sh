@@ -36,25 +36,31 @@ is_so "and no page at all" compared 2 "can't be read: " "$work/none.md" crates
 # The definitions with a change.
 definitions() { # status, what is said, file, change
   local it
-  for it in sn_msg/src/lib.rt sn_coherence/specs/Events.antt sn_model/specs/{NetEvents,CacheRows,HomeRows}.antt; do
+  for it in sn_msg/src/lib.rt sn_coherence/specs/Events.antt sn_model/specs/{NetEvents,Receivers,CacheRows,HomeRows}.antt; do
     mkdir -p "$work/crates/${it%/*}" && cp "crates/$it" "$work/crates/$it"
   done
   sed -i "$4" "$work/crates/$3"
   ! cmp -s "crates/$3" "$work/crates/$3" && compared "$1" "$2" docs/PROTOCOL.md "$work/crates"
 }
-events=sn_coherence/specs/Events.antt net=sn_model/specs/NetEvents.antt
+events=sn_coherence/specs/Events.antt net=sn_model/specs/NetEvents.antt receivers=sn_model/specs/Receivers.antt
+cache=sn_model/specs/CacheRows.antt home=sn_model/specs/HomeRows.antt
 is_so "an event of another body is found" definitions 1 "the definitions: \`DataM\` | " $events '/^Allows N b (DataShared/s/DataS$/DataM/'
 is_so "an event with another row is found" definitions 1 "| \`PutBegins\`" $events '/^after N b (PutBegins/s/put_begins/put_is_stale/'
 is_so "another name of an event is found" definitions 1 "the definitions: \`Inv\` | \`invalidate\` | \`Drops\`" $events 's/\bInvalidate\b/Drops/'
-is_so "a row for another body is found" definitions 1 "sn_model: PutGo put_done" $net '/^outcome_of s m PutGo/s/put_go/put_done/'
+is_so "a row for another body is found" definitions 1 "sn_model: PutGo put_done" $receivers '/^receiver_of PutGo/s/row.PutGo/row.PutDone/'
+is_so "another function of a row is found" definitions 1 "sn_model: PutGo put_done" $cache '/^cache_reply .* row.PutGo/s/put_go/put_done/'
+is_so "another row of an entry is found" definitions 1 "sn_model: GetM grant_exclusive" $home '/^write_row (Itself/s/row.Take/row.GrantExclusive/'
+is_so "a request that needn't wait is found" definitions 1 "the page: PutReq | " $home '/^is_request asked.PutReq/s/true/false/'
 is_so "a body without an event is found" definitions 1 "sn_msg: Nack" sn_msg/src/lib.rt 's/^    InvAck,/&\n    Nack,/'
-is_so "another note of a row is found" definitions 1 "the definitions: put_data | note now WasCache | " sn_model/specs/HomeRows.antt 's/at.log tag block (WasCache r)/at.log now block (WasCache r)/'
-is_so "another line is found" definitions 1 "the definitions: FwdGetS(r): line S; " sn_model/specs/CacheRows.antt 's/with_line at.cache block Owned/with_line at.cache block Shared/'
+is_so "another note of a row is found" definitions 1 "the definitions: put_data | note now WasCache | " $home 's/at.log tag block (WasCache r)/at.log now block (WasCache r)/'
+is_so "another line is found" definitions 1 "the definitions: FwdGetS(r): line S; " $cache 's/with_line at.cache block Owned/with_line at.cache block Shared/'
 is_so "an unknown condition is refused" definitions 2 "the condition of GrantExclusive names no columns" $events '/^Allows N b (Grant/s/≡ 0/≡ 1/'
 is_so "a message named in another way is refused" definitions 2 "Acknowledge doesn't begin with the message that has come" $events 's/Arrives b i InvAck/(b.net i).body ≡ InvAck/'
-is_so "a function that isn't there is refused" definitions 2 "outcome_of isn't a function with clauses" $net 's/outcome_of/result_of/'
+is_so "a function that isn't there is refused" definitions 2 "outcome_by isn't a function with clauses" $net 's/outcome_by/result_by/'
 is_so "and a type" definitions 2 "no enum Body" sn_msg/src/lib.rt 's/enum Body/enum Kind/'
-is_so "a function that doesn't go by variants is refused" definitions 2 "outcome_of hasn't one clause for each variant" $net 's/^outcome_of s m GetS =/outcome_of s m body =/'
+is_so "a function that doesn't go by variants is refused" definitions 2 "receiver_of hasn't one clause for each variant" $receivers \
+  's/^receiver_of GetS =/receiver_of body =/'
+is_so "and a receiver that isn't one" definitions 2 "receiver.Nobody isn't a receiver" $receivers '/^receiver_of GetS/s/receiver.Home asked.GetS/receiver.Nobody/'
 
 if has shellcheck "checking this part"; then
   is_so "shellcheck has nothing to say of it" shellcheck -x tests/gate/protocol.sh

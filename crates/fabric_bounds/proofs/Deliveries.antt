@@ -9,8 +9,10 @@ use Rattle.sn_msg.specs.declared.Body.TheVariants.{GetS, GetM, FwdGetS, FwdGetM,
 use Rattle.sn_msg.specs.declared.Body.TheVariants.{PutGo, PutData, PutDone, Ready, Advance}
 use Rattle.sn_model.specs.declared.cache.Need.TheVariants as need
 use Rattle.sn_model.specs.declared.net.News.TheVariants as told
+use Rattle.sn_model.specs.declared.rows.HomeMessage.{HomeMessage}
+use Rattle.sn_model.specs.declared.rows.HomeMessage.TheVariants as asked
 use Rattle.sn_model.specs.CacheRows.{Logged, CacheReply, MeetsRow}
-use Rattle.sn_model.specs.HomeRows.{HomeReply, put_data, unblock}
+use Rattle.sn_model.specs.HomeRows.{HomeReply, home_reply, home_row}
 use Rattle.sn_model.specs.Homes.{Transaction}
 use Rattle.sn_model.specs.Fabric.{Fabric, Flight, node_at, home_of, home_node, with_node, with_net, step_refused}
 use Rattle.sn_model.specs.Net.{net_limit, flight_of, without_flight, is_there}
@@ -28,7 +30,7 @@ use Rattle.fabric_bounds.proofs.Steps.{IsStep, fewer_fits, node_stays, one_steps
 use Rattle.fabric_bounds.proofs.Rows.{IsSmall, awaited_takes, forward_read_small, forward_write_small, invalidate_small, put_go_small}
 use Rattle.fabric_bounds.proofs.Rows.{put_done_small, data_shared_small, data_modified_small, data_exclusive_small, upgrade_granted_small}
 use Rattle.fabric_bounds.proofs.Rows.{acknowledge_small}
-use Rattle.fabric_bounds.proofs.Replies.{get_shared_few, get_modified_few, put_request_few, unblock_few}
+use Rattle.fabric_bounds.proofs.Replies.{row_few}
 
 pub not_over : (limit k : ℕ) → nat_lt limit k ≡ false → k ≤ limit
 not_over limit k e = grind (arith, nat_tests)
@@ -126,21 +128,23 @@ module _ (config : Config) (s : Fabric) (t : GhostState) (id : ℕ) (f : Flight)
   sixteen : length (home_of s f.message.block).sharers ≡ 16
   sixteen = kept.shape.sharers f.message.block flight.block
 
+  -- what a row of the home leaves
+  abbrev leaves : HomeMessage → HomeReply
+  leaves message =
+      home_reply (kept_at s f.message.to f.message.block) f.message.block (node_at s f.message.to).now f.message.tag f.message.from
+      (home_row (home_of s f.message.block) f.message.from message)
+
+  sends_few : (message : HomeMessage) → length (leaves message).sends ≤ most_sent
+  sends_few message =
+      row_few (kept_at s f.message.to f.message.block) sixteen f.message.from f.message.block (node_at s f.message.to).now f.message.tag
+      (home_row (home_of s f.message.block) f.message.from message)
+
   body_step : (x : Body) → f.message.body ≡ x → IsStep config s (delivers config s f.message (outcome_of s f.message x))
-  body_step GetS is =
-      request_step _ (get_shared_few (kept_at s f.message.to f.message.block) sixteen f.message.from f.message.block
-      (node_at s f.message.to).now (home_of s f.message.block).holder) (home_of s f.message.block).transaction
-  body_step GetM is =
-      request_step _ (get_modified_few (kept_at s f.message.to f.message.block) sixteen f.message.from f.message.block
-      (node_at s f.message.to).now (home_of s f.message.block).holder) (home_of s f.message.block).transaction
-  body_step PutReq is =
-      request_step _ (put_request_few (kept_at s f.message.to f.message.block) (node_at s f.message.to).now f.message.from)
-      (home_of s f.message.block).transaction
-  body_step (Unblock fixed) is =
-      home_step (unblock (kept_at s f.message.to f.message.block) f.message.block fixed (home_of s f.message.block).transaction)
-      (unblock_few (kept_at s f.message.to f.message.block) f.message.block fixed (home_of s f.message.block).transaction)
-  body_step (PutData content) is =
-      home_step (put_data (kept_at s f.message.to f.message.block) f.message.block f.message.tag f.message.from content) (omega arith)
+  body_step GetS is = request_step (leaves asked.GetS) (sends_few asked.GetS) (home_of s f.message.block).transaction
+  body_step GetM is = request_step (leaves asked.GetM) (sends_few asked.GetM) (home_of s f.message.block).transaction
+  body_step PutReq is = request_step (leaves asked.PutReq) (sends_few asked.PutReq) (home_of s f.message.block).transaction
+  body_step (Unblock fixed) is = home_step (leaves (asked.Unblock fixed)) (sends_few (asked.Unblock fixed))
+  body_step (PutData content) is = home_step (leaves (asked.PutData content)) (sends_few (asked.PutData content))
   body_step (FwdGetS r) is = cache_step _ (forward_read_small at f.message.block r (meets (FwdGetS r) is refl))
   body_step (FwdGetM r due) is = cache_step _ (forward_write_small at f.message.block (node_at s f.message.to).now r due)
   body_step (Inv r) is = cache_step _ (invalidate_small at f.message.block r)

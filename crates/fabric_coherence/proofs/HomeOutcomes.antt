@@ -10,10 +10,12 @@ use Rattle.sn_msg.specs.declared.Body.{Body}
 use Rattle.sn_msg.specs.declared.Body.TheVariants.{GetS, GetM, FwdGetS, FwdGetM, Inv, DataS, DataM, DataE, UpgOk, InvAck, Unblock, PutReq}
 use Rattle.sn_msg.specs.declared.Body.TheVariants.{PutGo, PutData, PutDone, Ready, Advance}
 use Rattle.sn_model.specs.declared.home.Kind.TheVariants as kind
+use Rattle.sn_model.specs.declared.rows.HomeRow.{HomeRow}
+use Rattle.sn_model.specs.declared.rows.HomeRow.TheVariants as chosen
 use Rattle.sn_model.specs.Homes.{Holder, Itself, OfCache, Transaction, is_owner}
 use Rattle.sn_model.specs.HomeRows as row
 use Rattle.sn_model.specs.Fabric.{Fabric, node_at, home_of, home_node}
-use Rattle.sn_model.specs.NetEvents.{Busy, AtHome, unless_busy, kept_at, get_shared, get_modified, put_request, outcome_of}
+use Rattle.sn_model.specs.NetEvents.{Busy, AtHome, unless_busy, kept_at, outcome_of}
 use Rattle.sn_coherence.specs.Block as block
 use Rattle.sn_coherence.specs.Consequences.{MeetsRows, MeetsNotes}
 use Rattle.sn_coherence.specs.Events.{Event, GrantExclusive, ReadAtHome, Upgrades, MovesOwnership, PutBegins, PutIsStale, PutDataComes}
@@ -76,6 +78,10 @@ module _ (s : Fabric) (t : GhostState) (m : Message) (shape : IsShaped s) (fligh
       (subst (λ y. logged_to (node_at s (home_node s m.block)).log true m.block ≤ y.number + 1) (seen_as (Unblock fixed) is)
       (notes.unblock m.id (λ p. (seen_as (Unblock fixed) is p).body) ((λ p. kind_open (e p)) ∙ (λ p. kind_seen (h p)))))
 
+  -- what a row leaves
+  abbrev leaves : HomeRow → row.HomeReply
+  leaves taken = row.home_reply (kept_at s m.to m.block) m.block (node_at s m.to).now m.tag m.from taken
+
   -- an event that is the row, and is allowed
   abbrev Does : row.HomeReply → Event → Type 0
   Does reply event =
@@ -89,8 +95,7 @@ module _ (s : Fabric) (t : GhostState) (m : Message) (shape : IsShaped s) (fligh
   -- GetS
   read_chosen : (c : Bool) (content : List ℕ) → nat_eq (other_count s m) 0 ≡ c → m.body ≡ GetS → m.to ≡ home_node s m.block →
       (home_of s m.block).transaction ≡ None → (home_of s m.block).holder ≡ Itself content →
-      IsHomeRow s t m (if c then row.grant_exclusive (kept_at s m.to m.block) m.block (node_at s m.to).now m.from content
-      else row.read_at_home (kept_at s m.to m.block) (node_at s m.to).now m.from content)
+      IsHomeRow s t m (leaves (if c then chosen.GrantExclusive content else chosen.ReadAtHome content))
       (after (length s.nodes) (block_seen s t m.block) (if c then GrantExclusive m.id else ReadAtHome m.id))
       × Allows (length s.nodes) (block_seen s t m.block) (if c then GrantExclusive m.id else ReadAtHome m.id)
   read_chosen true content count is home idle holder = (
@@ -116,7 +121,7 @@ module _ (s : Fabric) (t : GhostState) (m : Message) (shape : IsShaped s) (fligh
 
   read_by : (holder : Holder) → m.body ≡ GetS → m.to ≡ home_node s m.block → (home_of s m.block).transaction ≡ None →
       (home_of s m.block).holder ≡ holder →
-      Does (get_shared (kept_at s m.to m.block) m.block (node_at s m.to).now m.from holder) (read_event s m holder)
+      Does (leaves (row.read_row holder (other_count s m))) (read_event s m holder)
   read_by (Itself content) is home idle e = read_chosen (nat_eq (other_count s m) 0) content refl is home idle e
   read_by (OfCache owner) is home idle e = (
     read_at_owner-seen s t m shape flight home owner is e,
@@ -126,8 +131,7 @@ module _ (s : Fabric) (t : GhostState) (m : Message) (shape : IsShaped s) (fligh
   -- GetM
   write_chosen : (c : Bool) (owner : ℕ) → nat_eq owner m.from ≡ c → m.body ≡ GetM → m.to ≡ home_node s m.block →
       (home_of s m.block).transaction ≡ None → (home_of s m.block).holder ≡ OfCache owner →
-      IsHomeRow s t m (if c then row.upgrade (kept_at s m.to m.block) (node_at s m.to).now m.from
-      else row.move_ownership (kept_at s m.to m.block) (node_at s m.to).now m.from owner) (after (length s.nodes) (block_seen s t m.block)
+      IsHomeRow s t m (leaves (if c then chosen.Upgrade else chosen.MoveOwnership owner)) (after (length s.nodes) (block_seen s t m.block)
       (if c then Upgrades m.id (other_targets (home_of s m.block).sharers m.from) (other_count s m)
       else MovesOwnership m.id (other_targets (home_of s m.block).sharers m.from) (other_count s m)))
       × Allows (length s.nodes) (block_seen s t m.block)
@@ -158,7 +162,7 @@ module _ (s : Fabric) (t : GhostState) (m : Message) (shape : IsShaped s) (fligh
 
   write_by : (holder : Holder) → m.body ≡ GetM → m.to ≡ home_node s m.block → (home_of s m.block).transaction ≡ None →
       (home_of s m.block).holder ≡ holder →
-      Does (get_modified (kept_at s m.to m.block) m.block (node_at s m.to).now m.from holder) (write_event s m holder)
+      Does (leaves (row.write_row holder m.from)) (write_event s m holder)
   write_by (Itself content) is home idle e = (
     take-seen s t m shape flight home content is e (late_now home),
     ((arrives GetM block.GetM is refl refl refl, λ p. kind_open (idle p)), λ p. is_itself (e p), listed_for GetM is refl home),
@@ -168,8 +172,7 @@ module _ (s : Fabric) (t : GhostState) (m : Message) (shape : IsShaped s) (fligh
   -- PutReq
   put_chosen : (c : Bool) → is_owner (home_of s m.block).holder m.from ≡ c → m.body ≡ PutReq → m.to ≡ home_node s m.block →
       (home_of s m.block).transaction ≡ None →
-      IsHomeRow s t m (if c then row.put_begins (kept_at s m.to m.block) (node_at s m.to).now m.from
-      else row.put_is_stale (kept_at s m.to m.block) m.from)
+      IsHomeRow s t m (leaves (if c then chosen.PutBegins else chosen.PutIsStale))
       (after (length s.nodes) (block_seen s t m.block) (if c then PutBegins m.id else PutIsStale m.id))
       × Allows (length s.nodes) (block_seen s t m.block) (if c then PutBegins m.id else PutIsStale m.id)
   put_chosen true own is home idle = (
@@ -252,16 +255,16 @@ module _ (s : Fabric) (t : GhostState) (m : Message) (shape : IsShaped s) (fligh
   -- whatever a message comes to at its home is its event
   pub home-outcome : (x : Body) (reply : row.HomeReply) → m.body ≡ x → outcome_of s m x ≡ AtHome reply → Does reply (home_event s m x)
   home-outcome GetS reply is e =
-      served (get_shared (kept_at s m.to m.block) m.block (node_at s m.to).now m.from (home_of s m.block).holder) reply
+      served (leaves (row.read_row (home_of s m.block).holder (other_count s m))) reply
       (home_event s m GetS) (home_of s m.block).transaction refl e
       (λ idle. read_by (home_of s m.block).holder is (comes_home GetS is refl refl) idle refl)
   home-outcome GetM reply is e =
-      served (get_modified (kept_at s m.to m.block) m.block (node_at s m.to).now m.from (home_of s m.block).holder) reply
+      served (leaves (row.write_row (home_of s m.block).holder m.from)) reply
       (home_event s m GetM) (home_of s m.block).transaction refl e
       (λ idle. write_by (home_of s m.block).holder is (comes_home GetM is refl refl) idle refl)
   home-outcome PutReq reply is e =
-      served (put_request (kept_at s m.to m.block) (node_at s m.to).now m.from) reply (home_event s m PutReq)
-      (home_of s m.block).transaction refl e
+      served (leaves (if is_owner (home_of s m.block).holder m.from then chosen.PutBegins else chosen.PutIsStale)) reply
+      (home_event s m PutReq) (home_of s m.block).transaction refl e
       (λ idle. put_chosen (is_owner (home_of s m.block).holder m.from) refl is (comes_home PutReq is refl refl) idle)
   home-outcome (Unblock fixed) reply is e =
       subst (λ y. Does y (Unblocks m.id))
@@ -289,30 +292,25 @@ module _ (s : Fabric) (t : GhostState) (m : Message) (shape : IsShaped s) (fligh
     Passes reply = IsHomeElsewhere s t m reply e o
 
     read_passes : (c : Bool) (content : List ℕ) → m.to ≡ home_node s m.block →
-        Passes (if c then row.grant_exclusive (kept_at s m.to m.block) m.block (node_at s m.to).now m.from content
-        else row.read_at_home (kept_at s m.to m.block) (node_at s m.to).now m.from content)
+        Passes (leaves (if c then chosen.GrantExclusive content else chosen.ReadAtHome content))
     read_passes true content home = grant_exclusive-elsewhere s t m shape flight e o other content (late_now home)
     read_passes false content home = read_at_home-elsewhere s t m shape flight e o other content
 
     read_past : (holder : Holder) → m.to ≡ home_node s m.block →
-        Passes (get_shared (kept_at s m.to m.block) m.block (node_at s m.to).now m.from holder)
+        Passes (leaves (row.read_row holder (other_count s m)))
     read_past (Itself content) home = read_passes (nat_eq (other_count s m) 0) content home
     read_past (OfCache owner) home = read_at_owner-elsewhere s t m shape flight e o other owner
 
-    write_passes : (c : Bool) (owner : ℕ) →
-        Passes (if c then row.upgrade (kept_at s m.to m.block) (node_at s m.to).now m.from
-        else row.move_ownership (kept_at s m.to m.block) (node_at s m.to).now m.from owner)
+    write_passes : (c : Bool) (owner : ℕ) → Passes (leaves (if c then chosen.Upgrade else chosen.MoveOwnership owner))
     write_passes true owner = upgrade-elsewhere s t m shape flight e o other
     write_passes false owner = move_ownership-elsewhere s t m shape flight e o other owner
 
     write_past : (holder : Holder) → m.to ≡ home_node s m.block →
-        Passes (get_modified (kept_at s m.to m.block) m.block (node_at s m.to).now m.from holder)
+        Passes (leaves (row.write_row holder m.from))
     write_past (Itself content) home = take-elsewhere s t m shape flight e o other content (late_now home)
     write_past (OfCache owner) home = write_passes (nat_eq owner m.from) owner
 
-    put_passes : (c : Bool) →
-        Passes (if c then row.put_begins (kept_at s m.to m.block) (node_at s m.to).now m.from
-        else row.put_is_stale (kept_at s m.to m.block) m.from)
+    put_passes : (c : Bool) → Passes (leaves (if c then chosen.PutBegins else chosen.PutIsStale))
     put_passes true = put_begins-elsewhere s t m shape flight e o other
     put_passes false = put_is_stale-elsewhere s t m shape flight e o other
 
@@ -329,14 +327,14 @@ module _ (s : Fabric) (t : GhostState) (m : Message) (shape : IsShaped s) (fligh
 
     pub home-elsewhere : (x : Body) (reply : row.HomeReply) → m.body ≡ x → outcome_of s m x ≡ AtHome reply → Passes reply
     home-elsewhere GetS reply is h =
-        served_past (get_shared (kept_at s m.to m.block) m.block (node_at s m.to).now m.from (home_of s m.block).holder) reply
+        served_past (leaves (row.read_row (home_of s m.block).holder (other_count s m))) reply
         (home_of s m.block).transaction h (read_past (home_of s m.block).holder (comes_home GetS is refl refl))
     home-elsewhere GetM reply is h =
-        served_past (get_modified (kept_at s m.to m.block) m.block (node_at s m.to).now m.from (home_of s m.block).holder) reply
+        served_past (leaves (row.write_row (home_of s m.block).holder m.from)) reply
         (home_of s m.block).transaction h (write_past (home_of s m.block).holder (comes_home GetM is refl refl))
     home-elsewhere PutReq reply is h =
-        served_past (put_request (kept_at s m.to m.block) (node_at s m.to).now m.from) reply (home_of s m.block).transaction h
-        (put_passes (is_owner (home_of s m.block).holder m.from))
+        served_past (leaves (if is_owner (home_of s m.block).holder m.from then chosen.PutBegins else chosen.PutIsStale)) reply
+        (home_of s m.block).transaction h (put_passes (is_owner (home_of s m.block).holder m.from))
     home-elsewhere (Unblock fixed) reply is h =
         subst Passes (reply_is (row.unblock (kept_at s m.to m.block) m.block fixed (home_of s m.block).transaction) reply h)
         (unblock_past fixed (home_of s m.block).transaction is (comes_home (Unblock fixed) is refl refl) refl)

@@ -10,11 +10,13 @@ use Rattle.sn_msg.specs.declared.Body.TheVariants.{GetS, GetM, FwdGetS, FwdGetM,
 use Rattle.sn_msg.specs.declared.Body.TheVariants.{PutGo, PutData, PutDone, Ready, Advance}
 use Rattle.sn_model.specs.declared.home.Kind.{Kind}
 use Rattle.sn_model.specs.declared.home.Kind.TheVariants as kind
+use Rattle.sn_model.specs.declared.rows.HomeRow.{HomeRow}
+use Rattle.sn_model.specs.declared.rows.HomeRow.TheVariants as chosen
 use Rattle.sn_model.specs.Homes.{Holder, Itself, OfCache, Transaction, is_owner}
 use Rattle.sn_model.specs.HomeRows as row
 use Rattle.sn_model.specs.Fabric.{Fabric, node_at, home_of, FabricStep, step_refused}
 use Rattle.sn_model.specs.Net.{net_limit}
-use Rattle.sn_model.specs.NetEvents.{AtHome, unless_busy, kept_at, get_shared, get_modified, put_request, outcome_of, delivers}
+use Rattle.sn_model.specs.NetEvents.{AtHome, unless_busy, kept_at, outcome_of, delivers}
 use Rattle.sn_coherence.specs.Block as block
 use Rattle.sn_coherence.specs.Events.{Allows, after}
 use Rattle.sn_coherence.specs.Invariant.{BlockInvariant}
@@ -35,6 +37,10 @@ use Rattle.fabric_coherence.proofs.KeptCommon.{IsQuiet, frames_stay, quiet_losin
 
 reply_is : (a b : row.HomeReply) → AtHome a ≡ AtHome b → a ≡ b
 reply_is a b h = cc
+
+-- what a row leaves
+abbrev leaves : Fabric → Message → HomeRow → row.HomeReply
+leaves s m taken = row.home_reply (kept_at s m.to m.block) m.block (node_at s m.to).now m.tag m.from taken
 
 -- what a home sends goes to nodes that are there, and its entry keeps its length
 module _ (s : Fabric) (t : GhostState) (m : Message) (shape : IsShaped s) (flight : IsInFlight s m) (kept : BlockInvariant (length s.nodes) (block_seen s t m.block)) where
@@ -66,31 +72,26 @@ module _ (s : Fabric) (t : GhostState) (m : Message) (shape : IsShaped s) (fligh
   joined : length (slice_set (home_of s m.block).sharers m.from true) ≡ 16
   joined = length-set (home_of s m.block).sharers m.from true ∙ sharers
 
-  read_fits_by : (c : Bool) (content : List ℕ) →
-      Fits (if c then row.grant_exclusive (kept_at s m.to m.block) m.block (node_at s m.to).now m.from content
-      else row.read_at_home (kept_at s m.to m.block) (node_at s m.to).now m.from content)
+  read_fits_by : (c : Bool) (content : List ℕ) → Fits (leaves s m (if c then chosen.GrantExclusive content else chosen.ReadAtHome content))
   read_fits_by true content = (refl, ((flight.from, shape.some), tt))
   read_fits_by false content = (joined, ((flight.from, shape.some), tt))
 
   read_fits : (holder : Holder) → (home_of s m.block).holder ≡ holder →
-      Fits (get_shared (kept_at s m.to m.block) m.block (node_at s m.to).now m.from holder)
+      Fits (leaves s m (row.read_row holder (other_count s m)))
   read_fits (Itself content) e = read_fits_by (nat_eq (other_count s m) 0) content
   read_fits (OfCache owner) e = (joined, ((owner_low owner e, flight.from), tt))
 
   write_fits_by : (c : Bool) (owner : ℕ) → (home_of s m.block).holder ≡ OfCache owner →
-      Fits (if c then row.upgrade (kept_at s m.to m.block) (node_at s m.to).now m.from
-      else row.move_ownership (kept_at s m.to m.block) (node_at s m.to).now m.from owner)
+      Fits (leaves s m (if c then chosen.Upgrade else chosen.MoveOwnership owner))
   write_fits_by true owner e = (refl, ((flight.from, shape.some), asks_others))
   write_fits_by false owner e = (refl, ((owner_low owner e, flight.from), asks_others))
 
   write_fits : (holder : Holder) → (home_of s m.block).holder ≡ holder →
-      Fits (get_modified (kept_at s m.to m.block) m.block (node_at s m.to).now m.from holder)
+      Fits (leaves s m (row.write_row holder m.from))
   write_fits (Itself content) e = (refl, ((flight.from, shape.some), asks_others))
   write_fits (OfCache owner) e = write_fits_by (nat_eq owner m.from) owner e
 
-  put_fits : (c : Bool) →
-      Fits (if c then row.put_begins (kept_at s m.to m.block) (node_at s m.to).now m.from
-      else row.put_is_stale (kept_at s m.to m.block) m.from)
+  put_fits : (c : Bool) → Fits (leaves s m (if c then chosen.PutBegins else chosen.PutIsStale))
   put_fits true = (sharers, ((flight.from, shape.some), tt))
   put_fits false = (sharers, ((flight.from, shape.some), tt))
 
@@ -112,14 +113,14 @@ module _ (s : Fabric) (t : GhostState) (m : Message) (shape : IsShaped s) (fligh
 
   pub home-fits : (x : Body) (reply : row.HomeReply) → outcome_of s m x ≡ AtHome reply → Fits reply
   home-fits GetS reply h =
-      served_fits (get_shared (kept_at s m.to m.block) m.block (node_at s m.to).now m.from (home_of s m.block).holder) reply
+      served_fits (leaves s m (row.read_row (home_of s m.block).holder (other_count s m))) reply
       (home_of s m.block).transaction h (read_fits (home_of s m.block).holder refl)
   home-fits GetM reply h =
-      served_fits (get_modified (kept_at s m.to m.block) m.block (node_at s m.to).now m.from (home_of s m.block).holder) reply
+      served_fits (leaves s m (row.write_row (home_of s m.block).holder m.from)) reply
       (home_of s m.block).transaction h (write_fits (home_of s m.block).holder refl)
   home-fits PutReq reply h =
-      served_fits (put_request (kept_at s m.to m.block) (node_at s m.to).now m.from) reply (home_of s m.block).transaction h
-      (put_fits (is_owner (home_of s m.block).holder m.from))
+      served_fits (leaves s m (if is_owner (home_of s m.block).holder m.from then chosen.PutBegins else chosen.PutIsStale)) reply
+      (home_of s m.block).transaction h (put_fits (is_owner (home_of s m.block).holder m.from))
   home-fits (Unblock fixed) reply h =
       subst Fits (reply_is (row.unblock (kept_at s m.to m.block) m.block fixed (home_of s m.block).transaction) reply h)
       (unblock_fits fixed (home_of s m.block).transaction)
@@ -240,13 +241,14 @@ module _ (s : Fabric) (t : GhostState) (m : Message) (kept : FabricInvariant s t
     pub home_delivery_moves : (x : Body) → m.body ≡ x → block.is_to_home (message_seen m x).body ≡ true →
         Moves s t (delivers config s m (outcome_of s m x))
     home_delivery_moves GetS is home =
-        request_moves GetS (get_shared (kept_at s m.to m.block) m.block (node_at s m.to).now m.from (home_of s m.block).holder)
+        request_moves GetS (leaves s m (row.read_row (home_of s m.block).holder (other_count s m)))
         (home_of s m.block).transaction is refl
     home_delivery_moves GetM is home =
-        request_moves GetM (get_modified (kept_at s m.to m.block) m.block (node_at s m.to).now m.from (home_of s m.block).holder)
+        request_moves GetM (leaves s m (row.write_row (home_of s m.block).holder m.from))
         (home_of s m.block).transaction is refl
     home_delivery_moves PutReq is home =
-        request_moves PutReq (put_request (kept_at s m.to m.block) (node_at s m.to).now m.from) (home_of s m.block).transaction is refl
+        request_moves PutReq (leaves s m (if is_owner (home_of s m.block).holder m.from then chosen.PutBegins else chosen.PutIsStale))
+        (home_of s m.block).transaction is refl
     home_delivery_moves (Unblock fixed) is home =
         reply_moves (Unblock fixed) (row.unblock (kept_at s m.to m.block) m.block fixed (home_of s m.block).transaction) is refl
     home_delivery_moves (PutData content) is home =

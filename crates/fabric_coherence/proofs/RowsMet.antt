@@ -9,8 +9,10 @@ use Rattle.sn_msg.specs.declared.Body.TheVariants.{PutGo, PutData, PutDone}
 use Rattle.log_buffer.specs.Log.{logged_to}
 use Rattle.sn_model.specs.declared.home.Kind.{Kind}
 use Rattle.sn_model.specs.declared.home.Kind.TheVariants as kind
-use Rattle.sn_model.specs.Homes.{Holder, Itself, OfCache, Transaction, is_owner}
-use Rattle.sn_model.specs.HomeRows.{count_others, HasRow, MayUnblock, MayEndPut, is_put, noting, noted_by_read, noted_by_write}
+use Rattle.sn_model.specs.declared.rows.HomeRow.{HomeRow}
+use Rattle.sn_model.specs.declared.rows.HomeRow.TheVariants as chosen
+use Rattle.sn_model.specs.Homes.{HomeEntry, Holder, Itself, OfCache, Transaction, is_owner}
+use Rattle.sn_model.specs.HomeRows.{count_others, HasRow, MayUnblock, MayEndPut, is_put, noting, read_row, write_row, noted_by_home}
 use Rattle.sn_model.specs.HomeRows.{noted_by_end, noted_by_unblock, unless_open}
 use Rattle.sn_model.specs.Fabric.{Fabric, node_at, home_of, home_node}
 use Rattle.sn_model.specs.NetEvents.{logged_at}
@@ -63,21 +65,34 @@ not_owner (OfCache owner) r h = by_test (nat_eq owner r) refl
     by_test true e = absurd (h refl (grind (arith, nat_tests)))
 
 -- a note of an interval, where there is one, is late enough
-late_read : (log : ℕ) (open_one : Option Transaction) (holder : Holder) (others now : ℕ) → log ≤ now + 1 →
-    IfSome (unless_open open_one (noted_by_read holder others now)) (λ i. log ≤ i + 1)
-late_read log (Some transaction) holder others now l = tt
-late_read log None (OfCache owner) others now l = tt
-late_read log None (Itself content) others now l = by_test (nat_eq others 0)
-  where
-    by_test : (c : Bool) → IfSome (if c then Some now else None) (λ i. log ≤ i + 1)
-    by_test true = l
-    by_test false = tt
+module _ (log : ℕ) (entry : HomeEntry) (now tag : ℕ) where
+  abbrev IsLate : HomeRow → Type 0
+  IsLate taken = IfSome (noted_by_home entry now tag taken) (λ i. log ≤ i + 1)
 
-late_write : (log : ℕ) (open_one : Option Transaction) (holder : Holder) (now : ℕ) → log ≤ now + 1 →
-    IfSome (unless_open open_one (noted_by_write holder now)) (λ i. log ≤ i + 1)
-late_write log (Some transaction) holder now l = tt
-late_write log None (OfCache owner) now l = tt
-late_write log None (Itself content) now l = l
+  late_read : (holder : Holder) (others : ℕ) → log ≤ now + 1 → IsLate (read_row holder others)
+  late_read (OfCache owner) others l = tt
+  late_read (Itself content) others l = by_test (nat_eq others 0)
+    where
+      by_test : (c : Bool) → IsLate (if c then chosen.GrantExclusive content else chosen.ReadAtHome content)
+      by_test true = l
+      by_test false = tt
+
+  late_write : (holder : Holder) (r : ℕ) → log ≤ now + 1 → IsLate (write_row holder r)
+  late_write (Itself content) r l = l
+  late_write (OfCache owner) r l = by_test (nat_eq owner r)
+    where
+      by_test : (c : Bool) → IsLate (if c then chosen.Upgrade else chosen.MoveOwnership owner)
+      by_test true = tt
+      by_test false = tt
+
+  late_put : (c : Bool) → IsLate (if c then chosen.PutBegins else chosen.PutIsStale)
+  late_put true = tt
+  late_put false = tt
+
+late_request : (log : ℕ) (open_one : Option Transaction) (interval : Option ℕ) → IfSome interval (λ i. log ≤ i + 1) →
+    IfSome (unless_open open_one interval) (λ i. log ≤ i + 1)
+late_request log (Some transaction) interval l = tt
+late_request log None interval l = l
 
 late_end : (log : ℕ) (k : Kind) (holder : Holder) (fixed : ℕ) → (kind_seen k ≡ block.Move → log ≤ fixed + 1) →
     IfSome (noted_by_end k holder fixed) (λ i. log ≤ i + 1)
@@ -191,9 +206,15 @@ module _ (s : Fabric) (t : GhostState) (m : Message) (flight : IsInFlight s m) (
   home_note : (x : Body) → m.body ≡ x → m.to ≡ home_node s m.block →
       IsNoteInOrder (node_at s m.to).log true m.block (noting (home_of s m.block) (node_at s m.to).now m x)
   home_note GetS is home =
-      late_read last (home_of s m.block).transaction (home_of s m.block).holder (count_others (home_of s m.block).sharers m.from)
-      (node_at s m.to).now (late_now home)
-  home_note GetM is home = late_write last (home_of s m.block).transaction (home_of s m.block).holder (node_at s m.to).now (late_now home)
+      late_request last (home_of s m.block).transaction _
+      (late_read last (home_of s m.block) (node_at s m.to).now m.tag (home_of s m.block).holder
+      (count_others (home_of s m.block).sharers m.from) (late_now home))
+  home_note GetM is home =
+      late_request last (home_of s m.block).transaction _
+      (late_write last (home_of s m.block) (node_at s m.to).now m.tag (home_of s m.block).holder m.from (late_now home))
+  home_note PutReq is home =
+      late_request last (home_of s m.block).transaction _
+      (late_put last (home_of s m.block) (node_at s m.to).now m.tag (is_owner (home_of s m.block).holder m.from))
   home_note (Unblock fixed) is home =
       late_unblock last (home_of s m.block).transaction (home_of s m.block).holder fixed (late_fixed fixed is home)
   home_note (PutData content) is home = late_tag content is home

@@ -12,10 +12,12 @@ use Rattle.sn_model.specs.declared.cache.LineState.{LineState}
 use Rattle.sn_model.specs.declared.cache.LineState.TheVariants as state
 use Rattle.sn_model.specs.declared.cache.LineState.TheVariants.{Shared, Modified, Exclusive}
 use Rattle.sn_model.specs.declared.cache.Need.{Need}
+use Rattle.sn_model.specs.declared.rows.HomeMessage.{HomeMessage}
+use Rattle.sn_model.specs.declared.rows.HomeMessage.TheVariants as asked
 use Rattle.sn_model.specs.Caches.{block_count, line_of, with_line, is_present, misses_on, puts_on, frames_taken}
 use Rattle.sn_model.specs.CacheRows.{Logged, CacheReply, fixed_at, miss_with_ack, taken_over, forward_read, forward_write, invalidate}
 use Rattle.sn_model.specs.CacheRows.{data_shared, data_modified, data_exclusive, upgrade_granted, acknowledge, put_go, put_done}
-use Rattle.sn_model.specs.HomeRows.{HomeReply, unblock, put_data}
+use Rattle.sn_model.specs.HomeRows.{HomeReply, home_reply, home_row}
 use Rattle.sn_model.specs.Homes.{Transaction}
 use Rattle.sn_model.specs.Access.{step_of_miss, misses, has_miss, serves, lacks_room, accesses, step_of_access}
 use Rattle.sn_model.specs.Fabric.{Fabric, Flight, FabricStep, node_at, home_of, home_node, step_refused, step_with_answer}
@@ -23,7 +25,7 @@ use Rattle.sn_model.specs.FabricEvents.{FabricEvent, Access, Write, Evict, Edge,
 use Rattle.sn_model.specs.FabricEvents.{Recover, moved_by}
 use Rattle.sn_model.specs.Net.{net_limit, routes_of, flight_of, is_there, is_full, next_switch}
 use Rattle.sn_model.specs.NodeEvents.{evicts, begins_put, has_put, checkpoint_limit}
-use Rattle.sn_model.specs.NetEvents.{AtCache, AtHome, logged_at, kept_at, get_shared, get_modified, put_request, unless_busy, outcome_of}
+use Rattle.sn_model.specs.NetEvents.{AtCache, AtHome, logged_at, kept_at, unless_busy, outcome_of}
 use Rattle.sn_model.specs.NetEvents.{delivers, delivers_flight, hops, hops_to, loses}
 use Rattle.sn_model.specs.PointEvents.{recovers, living_switches}
 use Rattle.route_plan.specs.Distances.{is_dead}
@@ -98,6 +100,10 @@ module _ (config : Config) (s : Fabric) (t : GhostState) (id : ℕ) (f : Flight)
   at_home reply = by_test s (nat_lt config.log (length reply.after.log)) (step_refused s LogFull) _ tt
       (by_test s (nat_lt (net_limit + 1) (length s.net.flights + length reply.sends)) (step_refused s NetFull) _ tt tt)
 
+  -- what a row of the home leaves
+  abbrev leaves : HomeMessage → HomeReply
+  leaves message = home_reply (kept_at s m.to m.block) m.block (node_at s m.to).now m.tag m.from (home_row (home_of s m.block) m.from message)
+
   request : (open_one : Option Transaction) (reply : HomeReply) → Tells s (delivers config s m (unless_busy open_one reply))
   request None reply = at_home reply
   request (Some transaction) reply = tt
@@ -118,15 +124,11 @@ module _ (config : Config) (s : Fabric) (t : GhostState) (id : ℕ) (f : Flight)
       seen = flight.seen ∙ ap (message_seen m) is
 
   by_body : (x : Body) → m.body ≡ x → Tells s (delivers config s m (outcome_of s m x))
-  by_body GetS is =
-      request (home_of s m.block).transaction
-      (get_shared (kept_at s m.to m.block) m.block (node_at s m.to).now m.from (home_of s m.block).holder)
-  by_body GetM is =
-      request (home_of s m.block).transaction
-      (get_modified (kept_at s m.to m.block) m.block (node_at s m.to).now m.from (home_of s m.block).holder)
-  by_body PutReq is = request (home_of s m.block).transaction (put_request (kept_at s m.to m.block) (node_at s m.to).now m.from)
-  by_body (Unblock fixed) is = at_home (unblock (kept_at s m.to m.block) m.block fixed (home_of s m.block).transaction)
-  by_body (PutData content) is = at_home (put_data (kept_at s m.to m.block) m.block m.tag m.from content)
+  by_body GetS is = request (home_of s m.block).transaction (leaves asked.GetS)
+  by_body GetM is = request (home_of s m.block).transaction (leaves asked.GetM)
+  by_body PutReq is = request (home_of s m.block).transaction (leaves asked.PutReq)
+  by_body (Unblock fixed) is = at_home (leaves (asked.Unblock fixed))
+  by_body (PutData content) is = at_home (leaves (asked.PutData content))
   by_body (FwdGetS r) is = at_cache (forward_read at m.block r) tt
   by_body (FwdGetM r due) is = at_cache (forward_write at m.block (node_at s m.to).now r due) (lost_here true)
   by_body (Inv r) is = at_cache (invalidate at m.block r) (lost_here (is_present (line_of at.cache m.block).state))

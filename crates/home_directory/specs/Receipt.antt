@@ -3,15 +3,16 @@ use Rattle.std.specs.Prelude.{◌≡◌, ℕ, Bool, true, nat_lt, if◌then◌el
 use Rattle.sn_base.specs.declared.log.LogEntry.{LogEntry}
 use Rattle.sn_msg.specs.declared.Message.{Message}
 use Rattle.sn_msg.specs.declared.Body.{Body}
-use Rattle.sn_msg.specs.declared.Body.TheVariants.{GetS, GetM, Unblock, PutReq, PutData}
 use Rattle.log_buffer.specs.Log.{LogData}
 use Rattle.sn_model.specs.declared.cache.Out.{Out}
 use Rattle.sn_model.specs.declared.look.Look.{Look}
 use Rattle.sn_model.specs.declared.look.Look.TheVariants.{Sends, HomeBusy as LooksBusy, LogFull as LooksFull}
+use Rattle.sn_model.specs.declared.rows.Receiver.{Receiver}
+use Rattle.sn_model.specs.declared.rows.Receiver.TheVariants as receiver
 use Rattle.sn_model.specs.Homes.{HomeEntry}
-use Rattle.sn_model.specs.HomeRows.{LoggedEntry, HomeReply, invalidations, unblock, put_data, HasRow, noting}
-use Rattle.sn_model.specs.Receivers.{IsNoteInOrder}
-use Rattle.sn_model.specs.NetEvents.{Outcome, Busy, AtHome, get_shared, get_modified, put_request, unless_busy}
+use Rattle.sn_model.specs.HomeRows.{LoggedEntry, HomeReply, invalidations, HasRow, noting}
+use Rattle.sn_model.specs.Receivers.{receiver_of, IsNoteInOrder}
+use Rattle.sn_model.specs.NetEvents.{Outcome, Busy, AtHome, outcome_at_home}
 use Rattle.home_directory.specs.Home.{HomeData, entry_of, with_entry}
 use Rattle.home_directory.specs.declared.step.HomeStep.{HomeStep}
 use Rattle.home_directory.specs.declared.step.HomeStep.TheVariants.{Took, HomeBusy, LogFull}
@@ -19,14 +20,15 @@ use Rattle.home_directory.specs.declared.step.HomeStep.TheVariants.{Took, HomeBu
 abbrev pub entry_as_it_is : HomeEntry → List LogEntry → LoggedEntry
 entry_as_it_is entry log = record { entry = entry; log = log }
 
--- what a message comes to: the rows of the definitions, at this entry and log
+-- what a message comes to: the rows of the definitions, at this entry and log. What doesn't come to a home does nothing
+abbrev pub outcome_for : LoggedEntry → ℕ → Message → Receiver → Outcome
+outcome_for at now m (receiver.Cache taken) = Busy
+outcome_for at now m (receiver.Home message) = outcome_at_home at m now message
+outcome_for at now m (receiver.Controller k) = Busy
+outcome_for at now m (receiver.Clock k) = Busy
+
 abbrev pub outcome_at : LoggedEntry → ℕ → Message → Body → Outcome
-outcome_at at now m GetS = unless_busy at.entry.transaction (get_shared at m.block now m.from at.entry.holder)
-outcome_at at now m GetM = unless_busy at.entry.transaction (get_modified at m.block now m.from at.entry.holder)
-outcome_at at now m PutReq = unless_busy at.entry.transaction (put_request at now m.from)
-outcome_at at now m (Unblock fixed) = AtHome (unblock at m.block fixed at.entry.transaction)
-outcome_at at now m (PutData content) = AtHome (put_data at m.block m.tag m.from content)
-outcome_at at now m _ = Busy
+outcome_at at now m body = outcome_for at now m (receiver_of body)
 
 -- a row that is done; a request that waits; a row for whose note the log has no room
 pub data Verdict : Type 0 where

@@ -1,17 +1,23 @@
 -- What the functions inside a home say of a row: the tests that come before it, and that it was done.
 use Rattle.std.specs.Prelude.{◌≡◌, ℕ, ◌+◌, ◌<◌, Bool, true, false, not, ◌&&◌, nat_le, length, Option, Some, None, is_some}
-use Rattle.sn_msg.specs.declared.Body.{Body}
-use Rattle.sn_msg.specs.declared.Body.TheVariants.{GetS, GetM, PutReq}
+use Rattle.sn_msg.specs.declared.Message.{Message}
 use Rattle.log_buffer.specs.Log.{LogData, has_entry}
+use Rattle.sn_model.specs.declared.rows.HomeMessage.{HomeMessage}
+use Rattle.sn_model.specs.declared.rows.HomeRow.{HomeRow}
+use Rattle.sn_model.specs.declared.rows.HomeRow.TheVariants as row
 use Rattle.sn_model.specs.Homes.{HomeEntry}
 use Rattle.sn_model.specs.HomeRows.{LoggedEntry, HomeReply, count_others, is_request}
-use Rattle.sn_model.specs.NetEvents.{Outcome, AtHome}
+use Rattle.sn_model.specs.NetEvents.{outcome_at_home}
 use Rattle.home_directory.specs.declared.step.HomeStep.{HomeStep}
-use Rattle.home_directory.specs.Receipt.{Sent}
+use Rattle.home_directory.specs.Receipt.{Verdict, verdict_on, Sent}
 
 -- whether a message waits, since it is a request and a transaction is open
-abbrev pub waits : HomeEntry → Body → Bool
-waits entry body = is_request body && is_some entry.transaction
+abbrev pub waits : HomeEntry → HomeMessage → Bool
+waits entry message = is_request message && is_some entry.transaction
+
+-- the verdict on what comes to the home at an entry, with a log of this limit
+abbrev pub verdict_for : ℕ → LoggedEntry → ℕ → Message → HomeMessage → Verdict
+verdict_for limit at now m message = verdict_on limit (outcome_at_home at m now message)
 
 -- the log has room for a note of the home's side, if it is a new one
 abbrev pub HasLogRoom : LogData → ℕ → ℕ → Type 0
@@ -23,18 +29,19 @@ lacks_room log None block = false
 lacks_room log (Some interval) block = nat_le log.limit (length log.entries) && not (has_entry log.entries interval true block)
 
 -- how many messages a row sends
-abbrev pub count_sends : HomeEntry → ℕ → Body → ℕ
-count_sends entry r GetS = 1
-count_sends entry r GetM = 1 + count_others entry.sharers r
-count_sends entry r PutReq = 1
-count_sends entry r _ = 0
+abbrev pub count_sends : HomeEntry → ℕ → HomeRow → ℕ
+count_sends entry r (row.ReadAtHome content) = 1
+count_sends entry r (row.ReadAtOwner owner) = 1
+count_sends entry r (row.Take content) = 1 + count_others entry.sharers r
+count_sends entry r (row.MoveOwnership owner) = 1 + count_others entry.sharers r
+count_sends entry r row.Upgrade = 1 + count_others entry.sharers r
+count_sends entry r (row.Unblock fixed) = 0
+count_sends entry r row.PutBegins = 1
+count_sends entry r row.PutIsStale = 1
+count_sends entry r (row.PutData content) = 0
+count_sends entry r (row.GrantExclusive content) = 1
 
 -- a row that was done: what is left, and what the step sends
 pub record IsRowDone (after : LoggedEntry) (step : HomeStep) (reply : HomeReply) : Type 0 where
   pub left : after ≡ reply.after
   pub sent : Sent step reply.sends
-
--- the same of what a message comes to
-abbrev pub DidOutcome : LoggedEntry → HomeStep → Outcome → Type 0
-DidOutcome after step (AtHome reply) = IsRowDone after step reply
-DidOutcome after step _ = ⊥

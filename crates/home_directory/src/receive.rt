@@ -2,45 +2,79 @@
 ghost use Rattle.std.specs.Prelude.{◌≡◌, ◌+◌, ◌<◌, List, true, false, Some, None, IfSome};
 ghost use Rattle.sn_base.specs.declared.log.LogEntry.{LogEntry};
 ghost use Rattle.log_buffer.specs.Log.{IsLog};
-ghost use Rattle.sn_model.specs.HomeRows.{count_others, HasRow, noted_by_read, noted_by_write, noted_by_unblock, unless_open, noting};
-ghost use Rattle.sn_model.specs.NetEvents.{get_shared, get_modified, put_request};
+ghost use Rattle.sn_model.specs.HomeRows.{count_others, read_row, write_row, home_row, home_reply, noted_by_unblock, noted_by_home, noted_for, noting};
 ghost use Rattle.sn_model.specs.Receivers.{IsNoteInOrder};
-ghost use Rattle.home_directory.specs.Receipt.{entry_as_it_is, outcome_at, verdict_of, left_by, Tells, look_of};
-ghost use Rattle.home_directory.specs.Serving.{IsRowDone, DidOutcome, HasLogRoom, lacks_room, waits, count_sends};
+ghost use Rattle.home_directory.specs.Receipt.{entry_as_it_is, verdict_of, left_by, Tells, look_of};
+ghost use Rattle.home_directory.specs.Serving.{IsRowDone, HasLogRoom, lacks_room, waits, verdict_for, count_sends};
 
 use crate::entry::DirectoryEntry;
 use crate::rows;
 use crate::step::HomeStep;
 use log_buffer::LogBuffer;
 use sn_base::{BlockNo, Interval, NodeId};
-use sn_model::{Kind, Look, Owner};
-use sn_msg::{Body, Message};
+use sn_model::{HomeMessage, HomeRow, Kind, Look, Owner, Receiver, receiver_of};
+use sn_msg::Message;
 
 /// Whether a request has to wait for the open transaction.
-fn waits(entry: &DirectoryEntry, body: &Body) -> bool
-    ensures { result ≡ waits entry.now body.now }
+fn waits(entry: &DirectoryEntry, asked: &HomeMessage) -> bool
+    ensures { result ≡ waits entry.now asked.now }
 {
-    match body {
-        Body::GetS | Body::GetM | Body::PutReq => entry.transaction.is_some(),
-        _ => false,
+    match asked {
+        HomeMessage::GetS | HomeMessage::GetM | HomeMessage::PutReq => entry.transaction.is_some(),
+        HomeMessage::Unblock(_) | HomeMessage::PutData(_) => false,
     }
 }
 
-fn noted_by_read(entry: &DirectoryEntry, r: NodeId, now: Interval) -> Option<Interval>
-    ensures { result ≡ unless_open entry.now.transaction (noted_by_read entry.now.holder (count_others entry.now.sharers r) now) }
+/// The row of a GetS from r.
+fn read_row(entry: &DirectoryEntry, r: NodeId) -> HomeRow
+    ensures { result ≡ read_row entry.now.holder (count_others entry.now.sharers r) }
 {
-    match (entry.transaction, entry.owner) {
-        (None, Owner::Home) if entry.sharers.without(r).count() == 0 => Some(now),
-        _ => None,
+    let others = entry.sharers.without(r).count();
+    match entry.owner {
+        Owner::Cache(owner) => HomeRow::ReadAtOwner(owner),
+        Owner::Home => {
+            if others == 0 {
+                HomeRow::GrantExclusive(entry.memory)
+            } else {
+                HomeRow::ReadAtHome(entry.memory)
+            }
+        }
     }
 }
 
-fn noted_by_write(entry: &DirectoryEntry, now: Interval) -> Option<Interval>
-    ensures { result ≡ unless_open entry.now.transaction (noted_by_write entry.now.holder now) }
+/// The row of a GetM from r.
+fn write_row(entry: &DirectoryEntry, r: NodeId) -> HomeRow
+    ensures { result ≡ write_row entry.now.holder r }
 {
-    match (entry.transaction, entry.owner) {
-        (None, Owner::Home) => Some(now),
-        _ => None,
+    let owns = entry.is_owner(r);
+    match entry.owner {
+        Owner::Home => HomeRow::Take(entry.memory),
+        Owner::Cache(owner) => {
+            if owns {
+                HomeRow::Upgrade
+            } else {
+                HomeRow::MoveOwnership(owner)
+            }
+        }
+    }
+}
+
+/// The row of what comes from r.
+fn home_row(entry: &DirectoryEntry, r: NodeId, asked: &HomeMessage) -> HomeRow
+    ensures { result ≡ home_row entry.now r asked.now }
+{
+    match asked {
+        HomeMessage::GetS => read_row(entry, r),
+        HomeMessage::GetM => write_row(entry, r),
+        HomeMessage::Unblock(fixed) => HomeRow::Unblock(*fixed),
+        HomeMessage::PutReq => {
+            if entry.is_owner(r) {
+                HomeRow::PutBegins
+            } else {
+                HomeRow::PutIsStale
+            }
+        }
+        HomeMessage::PutData(content) => HomeRow::PutData(*content),
     }
 }
 
@@ -53,16 +87,17 @@ fn noted_by_unblock(entry: &DirectoryEntry, fixed: Interval) -> Option<Interval>
     }
 }
 
-/// The interval under which the message's row notes what stood, where it notes.
-fn noting(entry: &DirectoryEntry, message: &Message, now: Interval) -> Option<Interval>
-    ensures { result ≡ noting entry.now now message.now message.now.body }
+/// The interval under which a row notes what stood, where it notes.
+fn noted_by(entry: &DirectoryEntry, row: &HomeRow, now: Interval, tag: Interval) -> Option<Interval>
+    ensures { result ≡ noted_by_home entry.now now tag row.now }
 {
-    match message.body {
-        Body::GetS => noted_by_read(entry, message.from, now),
-        Body::GetM => noted_by_write(entry, now),
-        Body::Unblock(fixed) => noted_by_unblock(entry, fixed),
-        Body::PutData(_) => Some(message.tag),
-        _ => None,
+    match row {
+        HomeRow::Take(_) | HomeRow::GrantExclusive(_) => Some(now),
+        HomeRow::PutData(_) => Some(tag),
+        HomeRow::Unblock(fixed) => noted_by_unblock(entry, *fixed),
+        HomeRow::ReadAtHome(_) | HomeRow::ReadAtOwner(_) => None,
+        HomeRow::MoveOwnership(_) | HomeRow::Upgrade => None,
+        HomeRow::PutBegins | HomeRow::PutIsStale => None,
     }
 }
 
@@ -79,114 +114,103 @@ fn lacks_room(log: &LogBuffer, interval: Option<Interval>, block: BlockNo) -> bo
 }
 
 /// How many messages the row sends: only a write's row sends an `Inv`, to each other sharer.
-fn count_sends(entry: &DirectoryEntry, message: &Message) -> u8
-    ensures { result ≡ count_sends entry.now message.now.from message.now.body }
+fn count_sends(entry: &DirectoryEntry, r: NodeId, row: &HomeRow) -> u8
+    ensures { result ≡ count_sends entry.now r row.now }
 {
-    match message.body {
-        Body::GetS | Body::PutReq => 1,
-        Body::GetM => 1 + entry.sharers.without(message.from).count(),
-        _ => 0,
+    match row {
+        HomeRow::Take(_) | HomeRow::MoveOwnership(_) | HomeRow::Upgrade => {
+            1 + entry.sharers.without(r).count()
+        }
+        HomeRow::ReadAtHome(_) | HomeRow::ReadAtOwner(_) | HomeRow::GrantExclusive(_) => 1,
+        HomeRow::PutBegins | HomeRow::PutIsStale => 1,
+        HomeRow::Unblock(_) | HomeRow::PutData(_) => 0,
     }
+}
+
+/// What would be done with what comes to the home.
+fn look_at(
+    entry: &DirectoryEntry,
+    message: &Message,
+    asked: &HomeMessage,
+    now: Interval,
+    log: &LogBuffer,
+) -> Look
+    ensures { result ≡ look_of (verdict_for log.now.limit (entry_as_it_is entry.now log.now.entries) now message.now asked.now) }
+{
+    if waits(entry, asked) {
+        return Look::HomeBusy;
+    }
+    let row = home_row(entry, message.from, asked);
+    if lacks_room(log, noted_by(entry, &row, now, message.tag), message.block) {
+        return Look::LogFull;
+    }
+    Look::Sends(count_sends(entry, message.from, &row))
 }
 
 /// What `receive` would do.
 pub fn look(entry: &DirectoryEntry, message: &Message, now: Interval, log: &LogBuffer) -> Look
-    requires { HasRow entry.now message.now.from message.now.body }
     ensures { result ≡ look_of (verdict_of log.now.limit (entry_as_it_is entry.now log.now.entries) now message.now) }
 {
-    if waits(entry, &message.body) {
-        return Look::HomeBusy;
+    match receiver_of(&message.body) {
+        Receiver::Home(asked) => look_at(entry, message, &asked, now, log),
+        Receiver::Cache(_) | Receiver::Controller(_) | Receiver::Clock(_) => Look::HomeBusy,
     }
-    if lacks_room(log, noting(entry, message, now), message.block) {
-        return Look::LogFull;
-    }
-    Look::Sends(count_sends(entry, message))
 }
 
-fn get_shared(
+/// Does a row for whose note the log has room.
+fn do_row(
     entry: &mut DirectoryEntry,
     message: &Message,
+    row: &HomeRow,
     now: Interval,
     log: &mut LogBuffer,
 ) -> HomeStep
-    requires room { IfSome (noted_by_read entry.old.holder (count_others entry.old.sharers message.now.from) now)
-        (λ i. HasLogRoom log.old i message.now.block) }
-    requires latest { IsNoteInOrder log.old.entries true message.now.block
-        (noted_by_read entry.old.holder (count_others entry.old.sharers message.now.from) now) }
+    requires room { IfSome (noted_by_home entry.old now message.now.tag row.now) (λ i. HasLogRoom log.old i message.now.block) }
+    requires latest { IsNoteInOrder log.old.entries true message.now.block (noted_by_home entry.old now message.now.tag row.now) }
     ensures did { IsRowDone (entry_as_it_is entry.new log.new.entries) result
-        (get_shared (entry_as_it_is entry.old log.old.entries) message.now.block now message.now.from entry.old.holder) }
-    ensures limit { log.new.limit ≡ log.old.limit }
-{
-    let (r, content) = (message.from, entry.memory);
-    let others = entry.sharers.without(r).count();
-    let Some(owner) = entry.owner_cache() else {
-        if others == 0 {
-            return rows::grant_exclusive(entry, log, message.block, now, r, content);
-        }
-        return rows::read_at_home(entry, now, r, content);
-    };
-    rows::read_at_owner(entry, now, r, owner)
-}
-
-fn get_modified(
-    entry: &mut DirectoryEntry,
-    message: &Message,
-    now: Interval,
-    log: &mut LogBuffer,
-) -> HomeStep
-    requires room { IfSome (noted_by_write entry.old.holder now) (λ i. HasLogRoom log.old i message.now.block) }
-    requires latest { IsNoteInOrder log.old.entries true message.now.block (noted_by_write entry.old.holder now) }
-    ensures did { IsRowDone (entry_as_it_is entry.new log.new.entries) result
-        (get_modified (entry_as_it_is entry.old log.old.entries) message.now.block now message.now.from entry.old.holder) }
-    ensures limit { log.new.limit ≡ log.old.limit }
-{
-    let (r, content) = (message.from, entry.memory);
-    match entry.owner_cache() {
-        None => rows::take(entry, log, message.block, now, r, content),
-        Some(owner) => {
-            if owner == r {
-                rows::upgrade(entry, now, r)
-            } else {
-                rows::move_ownership(entry, now, r, owner)
-            }
-        }
-    }
-}
-
-fn put_request(entry: &mut DirectoryEntry, now: Interval, r: NodeId) -> HomeStep
-    ensures { (log : List LogEntry) → IsRowDone (entry_as_it_is entry.new log) result (put_request (entry_as_it_is entry.old log) now r) }
-{
-    if entry.is_owner(r) {
-        rows::put_begins(entry, now, r)
-    } else {
-        rows::put_is_stale(r)
-    }
-}
-
-/// Does the message's row.
-fn serve(
-    entry: &mut DirectoryEntry,
-    message: &Message,
-    now: Interval,
-    log: &mut LogBuffer,
-) -> HomeStep
-    requires row { HasRow entry.old message.now.from message.now.body }
-    requires idle { waits entry.old message.now.body ≡ false }
-    requires room { IfSome (noting entry.old now message.now message.now.body) (λ i. HasLogRoom log.old i message.now.block) }
-    requires latest { IsNoteInOrder log.old.entries true message.now.block (noting entry.old now message.now message.now.body) }
-    ensures did { DidOutcome (entry_as_it_is entry.new log.new.entries) result
-        (outcome_at (entry_as_it_is entry.old log.old.entries) now message.now message.now.body) }
+        (home_reply (entry_as_it_is entry.old log.old.entries) message.now.block now message.now.tag message.now.from row.now) }
     ensures limit { log.new.limit ≡ log.old.limit }
 {
     let (block, r) = (message.block, message.from);
-    match message.body {
-        Body::GetS => get_shared(entry, message, now, log),
-        Body::GetM => get_modified(entry, message, now, log),
-        Body::PutReq => put_request(entry, now, r),
-        Body::Unblock(fixed) => rows::unblock(entry, log, block, fixed, r),
-        Body::PutData(content) => rows::put_data(entry, log, block, message.tag, r, content),
-        _ => unreachable!(),
+    match *row {
+        HomeRow::ReadAtHome(content) => rows::read_at_home(entry, now, r, content),
+        HomeRow::ReadAtOwner(owner) => rows::read_at_owner(entry, now, r, owner),
+        HomeRow::Take(content) => rows::take(entry, log, block, now, r, content),
+        HomeRow::MoveOwnership(owner) => rows::move_ownership(entry, now, r, owner),
+        HomeRow::Upgrade => rows::upgrade(entry, now, r),
+        HomeRow::Unblock(fixed) => rows::unblock(entry, log, block, fixed, r),
+        HomeRow::PutBegins => rows::put_begins(entry, now, r),
+        HomeRow::PutIsStale => rows::put_is_stale(r),
+        HomeRow::PutData(content) => rows::put_data(entry, log, block, message.tag, r, content),
+        HomeRow::GrantExclusive(content) => {
+            rows::grant_exclusive(entry, log, block, now, r, content)
+        }
     }
+}
+
+/// Does the row of what comes to the home, or refuses it.
+fn serve(
+    entry: &mut DirectoryEntry,
+    message: &Message,
+    asked: &HomeMessage,
+    now: Interval,
+    log: &mut LogBuffer,
+) -> HomeStep
+    requires { IsNoteInOrder log.old.entries true message.now.block (noted_for entry.old now message.now asked.now) }
+    ensures left { entry_as_it_is entry.new log.new.entries
+        ≡ left_by (entry_as_it_is entry.old log.old.entries)
+        (verdict_for log.old.limit (entry_as_it_is entry.old log.old.entries) now message.now asked.now) }
+    ensures tells { Tells result (verdict_for log.old.limit (entry_as_it_is entry.old log.old.entries) now message.now asked.now) }
+    ensures limit { log.new.limit ≡ log.old.limit }
+{
+    if waits(entry, asked) {
+        return HomeStep::HomeBusy;
+    }
+    let row = home_row(entry, message.from, asked);
+    if lacks_room(log, noted_by(entry, &row, now, message.tag), message.block) {
+        return HomeStep::LogFull;
+    }
+    do_row(entry, message, &row, now, log)
 }
 
 /// Does the message's row, or refuses it.
@@ -196,18 +220,14 @@ pub fn receive(
     now: Interval,
     log: &mut LogBuffer,
 ) -> HomeStep
-    requires row { HasRow entry.old message.now.from message.now.body }
-    requires latest { IsNoteInOrder log.old.entries true message.now.block (noting entry.old now message.now message.now.body) }
+    requires { IsNoteInOrder log.old.entries true message.now.block (noting entry.old now message.now message.now.body) }
     ensures left { entry_as_it_is entry.new log.new.entries
         ≡ left_by (entry_as_it_is entry.old log.old.entries) (verdict_of log.old.limit (entry_as_it_is entry.old log.old.entries) now message.now) }
     ensures tells { Tells result (verdict_of log.old.limit (entry_as_it_is entry.old log.old.entries) now message.now) }
     ensures limit { log.new.limit ≡ log.old.limit }
 {
-    if waits(entry, &message.body) {
-        return HomeStep::HomeBusy;
+    match receiver_of(&message.body) {
+        Receiver::Home(asked) => serve(entry, message, &asked, now, log),
+        Receiver::Cache(_) | Receiver::Controller(_) | Receiver::Clock(_) => HomeStep::HomeBusy,
     }
-    if lacks_room(log, noting(entry, message, now), message.block) {
-        return HomeStep::LogFull;
-    }
-    serve(entry, message, now, log)
 }

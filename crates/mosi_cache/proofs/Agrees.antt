@@ -5,43 +5,35 @@ use Rattle.sn_base.specs.declared.config.Config.{Config}
 use Rattle.sn_base.specs.declared.event.Answer.TheVariants.{Retired, Waits, NeedsEvict, LogFull, NetFull, MissOpen}
 use Rattle.sn_msg.specs.declared.Message.{Message}
 use Rattle.sn_msg.specs.declared.Body.{Body}
-use Rattle.sn_msg.specs.declared.Body.TheVariants.{GetS, GetM, FwdGetS, FwdGetM, Inv, DataS, DataM, DataE, UpgOk, InvAck, Unblock, PutReq}
-use Rattle.sn_msg.specs.declared.Body.TheVariants.{PutGo, PutData, PutDone, Ready, Advance}
 use Rattle.sn_model.specs.declared.cache.LineState.{LineState}
 use Rattle.sn_model.specs.declared.cache.LineState.TheVariants.{Absent, Shared, Owned, Modified, Exclusive}
 use Rattle.sn_model.specs.declared.cache.Need.{Need}
 use Rattle.sn_model.specs.declared.cache.Need.TheVariants.{Read, Write}
+use Rattle.sn_model.specs.declared.rows.Receiver.{Receiver}
+use Rattle.sn_model.specs.declared.rows.Receiver.TheVariants as receiver
 use Rattle.sn_model.specs.Caches.{Put, line_of, is_present, is_writable_state, misses_on, puts_on, frames_taken}
 use Rattle.sn_model.specs.Fabric.{Fabric, FabricStep, node_at, home_node, step_refused, step_with_answer}
 use Rattle.sn_model.specs.Net.{is_full}
 use Rattle.sn_model.specs.Access.{node_to_write, step_of_miss, accesses}
 use Rattle.sn_model.specs.NodeEvents.{step_of_eviction, evicts}
-use Rattle.sn_model.specs.NetEvents.{logged_at, outcome_of, AtCache}
-use Rattle.sn_model.specs.CacheRows.{row_by, MeetsRow}
+use Rattle.sn_model.specs.NetEvents.{logged_at, outcome_by, outcome_of, AtCache}
+use Rattle.sn_model.specs.CacheRows.{reply_at_cache, row_by, MeetsAtCache, MeetsRow}
+use Rattle.sn_model.specs.Receivers.{receiver_of}
 use Rattle.mosi_cache.specs.declared.step.AccessProbe.TheVariants.{Ready as IsReady, Waits as HasToWait, Miss, NeedsEvict as HasNoFrame}
 use Rattle.mosi_cache.specs.declared.step.AccessProbe.TheVariants.{LogFull as HasNoRoom}
 use Rattle.mosi_cache.specs.Probe.{probe_by, evict_by, evict_line}
 use Rattle.mosi_cache.specs.Machine.{controller_at, log_at, access_by_probe, evicted_by}
 
+receiver_agrees : (s : Fabric) (m : Message) (x : Receiver) → MeetsAtCache (logged_at s m.to) m.block x →
+    outcome_by s m x ≡ AtCache (reply_at_cache (logged_at s m.to) (home_node s m.block) m.block (node_at s m.to).now m.tag x)
+receiver_agrees s m (receiver.Cache taken) r = refl
+receiver_agrees s m (receiver.Home message) r = absurd r
+receiver_agrees s m (receiver.Controller k) r = absurd r
+receiver_agrees s m (receiver.Clock k) r = absurd r
+
 pub row-agrees : (s : Fabric) (m : Message) (body : Body) → MeetsRow (logged_at s m.to) m.block body →
     outcome_of s m body ≡ AtCache (row_by (logged_at s m.to) (home_node s m.block) m.block (node_at s m.to).now m.tag body)
-row-agrees s m (FwdGetS requester) r = refl
-row-agrees s m (FwdGetM requester due) r = refl
-row-agrees s m (Inv requester) r = refl
-row-agrees s m (DataS content) r = refl
-row-agrees s m (DataM content due) r = refl
-row-agrees s m (DataE content) r = refl
-row-agrees s m (UpgOk due) r = refl
-row-agrees s m InvAck r = refl
-row-agrees s m PutGo r = refl
-row-agrees s m PutDone r = refl
-row-agrees s m GetS r = absurd r
-row-agrees s m GetM r = absurd r
-row-agrees s m (Unblock fixed) r = absurd r
-row-agrees s m PutReq r = absurd r
-row-agrees s m (PutData content) r = absurd r
-row-agrees s m (Ready point) r = absurd r
-row-agrees s m (Advance point) r = absurd r
+row-agrees s m body r = receiver_agrees s m (receiver_of body) r
 
 -- by the tests of an access, in their order
 

@@ -3,13 +3,13 @@ use Rattle.std.proofs.Common.{◌≡◌, ◌+◌, Bool, true, false, length, ref
 use Rattle.sn_base.specs.declared.config.Config.{Config}
 use Rattle.sn_base.specs.declared.event.Answer.TheVariants.{LogFull, NetFull, Delivered}
 use Rattle.sn_msg.specs.declared.Message.{Message}
-use Rattle.sn_msg.specs.declared.Body.{Body}
-use Rattle.sn_msg.specs.declared.Body.TheVariants.{FwdGetS, FwdGetM, Inv, DataS, DataM, DataE, UpgOk, InvAck, PutGo, PutDone}
-use Rattle.sn_model.specs.CacheRows.{CacheReply, row_by}
-use Rattle.sn_model.specs.Receivers.{comes_to_cache}
+use Rattle.sn_model.specs.declared.rows.Receiver.{Receiver}
+use Rattle.sn_model.specs.declared.rows.Receiver.TheVariants as receiver
+use Rattle.sn_model.specs.CacheRows.{CacheReply, reply_at_cache}
+use Rattle.sn_model.specs.Receivers.{receiver_of, is_cache, comes_to_cache}
 use Rattle.sn_model.specs.Fabric.{Fabric, FabricStep, node_at, home_node, step_refused}
 use Rattle.sn_model.specs.Net.{net_limit}
-use Rattle.sn_model.specs.NetEvents.{AtCache, logged_at, outcome_of, delivers}
+use Rattle.sn_model.specs.NetEvents.{AtCache, logged_at, outcome_by, delivers}
 use Rattle.mosi_cache.specs.Rows.{is_over}
 use Rattle.mosi_cache.specs.Machine.{log_at, IsFullAsAtCache}
 
@@ -26,23 +26,14 @@ module _ (config : Config) (s : Fabric) (m : Message) where
   at_cache reply =
       full s (nat_lt config.log (length reply.after.log)) (nat_lt (net_limit + 1) (length s.net.flights + length reply.sends)) _ refl
 
-  abbrev row : Body → CacheReply
-  row x = row_by (logged_at s m.to) (home_node s m.block) m.block (node_at s m.to).now m.tag x
+  abbrev leaves : Receiver → CacheReply
+  leaves x = reply_at_cache (logged_at s m.to) (home_node s m.block) m.block (node_at s m.to).now m.tag x
 
-  cache_by : (x : Body) → comes_to_cache x ≡ true →
-      ((delivers config s m (outcome_of s m x)).answer ≡ LogFull → is_over (log_at config s m.to) (row x) ≡ true)
-      × (is_over (log_at config s m.to) (row x) ≡ true → (delivers config s m (outcome_of s m x)).answer ≡ LogFull)
-  cache_by (FwdGetS r) e = at_cache (row (FwdGetS r))
-  cache_by (FwdGetM r due) e = at_cache (row (FwdGetM r due))
-  cache_by (Inv r) e = at_cache (row (Inv r))
-  cache_by (DataS content) e = at_cache (row (DataS content))
-  cache_by (DataM content due) e = at_cache (row (DataM content due))
-  cache_by (DataE content) e = at_cache (row (DataE content))
-  cache_by (UpgOk due) e = at_cache (row (UpgOk due))
-  cache_by InvAck e = at_cache (row InvAck)
-  cache_by PutGo e = at_cache (row PutGo)
-  cache_by PutDone e = at_cache (row PutDone)
+  cache_by : (x : Receiver) → is_cache x ≡ true →
+      ((delivers config s m (outcome_by s m x)).answer ≡ LogFull → is_over (log_at config s m.to) (leaves x) ≡ true)
+      × (is_over (log_at config s m.to) (leaves x) ≡ true → (delivers config s m (outcome_by s m x)).answer ≡ LogFull)
+  cache_by (receiver.Cache taken) e = at_cache (leaves (receiver.Cache taken))
   cache_by _ e = absurd (cc)
 
   pub cache_full : comes_to_cache m.body ≡ true → IsFullAsAtCache config s m
-  cache_full e = cache_by m.body e
+  cache_full e = cache_by (receiver_of m.body) e

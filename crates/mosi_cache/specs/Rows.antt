@@ -3,14 +3,18 @@ use Rattle.std.specs.Prelude.{◌≡◌, ℕ, ◌%◌, Bool, nat_lt, if◌then�
 use Rattle.sn_msg.specs.declared.Message.{Message}
 use Rattle.log_buffer.specs.Log.{LogData}
 use Rattle.sn_model.specs.declared.cache.Out.{Out}
-use Rattle.sn_model.specs.CacheRows.{CacheReply, row_by}
+use Rattle.sn_model.specs.declared.rows.CacheRow.{CacheRow}
+use Rattle.sn_model.specs.CacheRows.{CacheReply, cache_reply, row_by}
 use Rattle.mosi_cache.specs.declared.step.CacheStep.{CacheStep}
 use Rattle.mosi_cache.specs.declared.step.CacheStep.TheVariants.{Took, LogFull}
 use Rattle.sn_model.specs.declared.look.Look.{Look}
 use Rattle.sn_model.specs.declared.look.Look.TheVariants.{Sends, LogFull as SeesLogFull}
 use Rattle.mosi_cache.specs.Controller.{CacheData, with_entries}
 
--- the row of a message at a controller
+-- what a row leaves of a controller, and the row of a message
+abbrev pub reply_of : CacheData → LogData → ℕ → Message → CacheRow → CacheReply
+reply_of c log now m taken = cache_reply (with_entries c log.entries) (m.block % c.nodes) m.block now m.tag taken
+
 abbrev pub row_of : CacheData → LogData → ℕ → Message → CacheReply
 row_of c log now m = row_by (with_entries c log.entries) (m.block % c.nodes) m.block now m.tag m.body
 

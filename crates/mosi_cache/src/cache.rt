@@ -1,14 +1,15 @@
 //! The controller of a cache.
 //!
-//! What a message does stands in the rows, one function each; here is which row a message has, and when it is refused.
+//! What a row does stands in the rows, one function each; here is when a message is refused, and which function does its row.
 ghost use Rattle.std.specs.Prelude.{◌≡◌, ℕ, ◌+◌, ◌<◌, ◌≤◌, true, false, List, length, IfOk, Some, None};
 ghost use Rattle.sn_base.specs.Config.{config_fits};
 ghost use Rattle.sn_base.specs.declared.log.LogEntry.{LogEntry};
 ghost use Rattle.sn_model.specs.Caches.{empty_cache};
-ghost use Rattle.sn_model.specs.CacheRows.{Logged, fixed_at, miss_with_ack, reply_or_wait, row_by, MeetsRow, noted_in};
+ghost use Rattle.sn_model.specs.CacheRows.{Logged, fixed_at, miss_with_ack, reply_or_wait, cache_reply, MeetsCacheRow, MeetsRow};
+ghost use Rattle.sn_model.specs.CacheRows.{noted_by_cache, noted_in};
 ghost use Rattle.sn_model.specs.Receivers.{IsNoteInOrder};
 ghost use Rattle.mosi_cache.specs.Controller.{CacheData, with_entries};
-ghost use Rattle.mosi_cache.specs.Rows.{row_of, is_over, step_by, look_by, cache_by, log_by};
+ghost use Rattle.mosi_cache.specs.Rows.{reply_of, row_of, is_over, step_by, look_by, cache_by, log_by};
 ghost use Rattle.mosi_cache.specs.Rows.{IsRowDone};
 
 mod access;
@@ -23,8 +24,8 @@ use crate::step::CacheStep;
 use atomicity_point::TxnTable;
 use log_buffer::LogBuffer;
 use sn_base::{Config, Interval, Memory, NodeId};
-use sn_model::{Look, Need};
-use sn_msg::{Body, Message};
+use sn_model::{CacheRow, Look, Need, Receiver, receiver_of};
+use sn_msg::Message;
 use std::alloc::Global;
 use std::marker::Model;
 
@@ -56,14 +57,15 @@ impl Model for Cache {
     ghost invariant = { λ c. (1 ≤ c.nodes) × (c.nodes ≤ 16) × FitsSets (cache_of c.need c.lines c.transactions) c.lines.sets c.lines.ways };
 }
 
-/// The interval in which a message's row notes what stood before it, where it does.
-fn noting(message: &Message, now: Interval) -> Option<Interval>
-    ensures { result ≡ noted_in now message.now.tag message.now.body }
+/// The interval in which a row notes what stood before it, where it does.
+fn noted_by(row: &CacheRow, now: Interval, tag: Interval) -> Option<Interval>
+    ensures { result ≡ noted_by_cache now tag row.now }
 {
-    match message.body {
-        Body::FwdGetM(_, _) | Body::PutGo => Some(now),
-        Body::DataM(_, _) | Body::DataE(_) => Some(message.tag),
-        _ => None,
+    match row {
+        CacheRow::ForwardWrite(_, _) | CacheRow::PutGo => Some(now),
+        CacheRow::DataModified(_, _) | CacheRow::DataExclusive(_) => Some(tag),
+        CacheRow::ForwardRead(_) | CacheRow::Invalidate(_) | CacheRow::DataShared(_) => None,
+        CacheRow::UpgradeGranted(_) | CacheRow::Acknowledge | CacheRow::PutDone => None,
     }
 }
 
@@ -92,14 +94,24 @@ impl Cache {
         requires last { IsNoteInOrder log.now.entries false message.now.block (noted_in now message.now.tag message.now.body) }
         ensures { result ≡ look_by log.now (row_of self.now log.now now message.now) }
     {
+        match receiver_of(&message.body) {
+            Receiver::Cache(row) => self.look_at(&row, message, now, log),
+            Receiver::Home(_) | Receiver::Controller(_) | Receiver::Clock(_) => Look::Sends(0),
+        }
+    }
+
+    /// What would be done with a message of this row.
+    fn look_at(&self, row: &CacheRow, message: &Message, now: Interval, log: &LogBuffer) -> Look
+        ensures { result ≡ look_by log.now (reply_of self.now log.now now message.now row.now) }
+    {
         let room = log.room();
-        if let Some(interval) = noting(message, now)
+        if let Some(interval) = noted_by(row, now, message.tag)
             && room == 0
             && !log.has(interval, false, message.block)
         {
             return Look::LogFull;
         }
-        Look::Sends(self.sends(message))
+        Look::Sends(self.count_sends(row))
     }
 
     /// Takes a message to this node: its row is done, or, where that needs a log entry for which there is no room, nothing.
@@ -127,33 +139,63 @@ impl Cache {
         ensures done { IsRowDone self.old self.new result (row_of self.old log.old now message.now) }
         ensures log { log.new ≡ record log.old { entries = (row_of self.old log.old now message.now).after.log } }
     {
-        let block = message.block;
-        match message.body {
-            Body::FwdGetS(requester) => self.forward_read(block, requester),
-            Body::FwdGetM(requester, due) => self.forward_write(block, now, requester, due, log),
-            Body::Inv(requester) => self.invalidate(block, requester),
-            Body::DataS(content) => self.data_shared(block, message.tag, content),
-            Body::DataM(content, due) => self.data_modified(block, message.tag, content, due, log),
-            Body::UpgOk(due) => self.upgrade_granted(block, message.tag, due),
-            Body::InvAck => self.acknowledge(block),
-            Body::PutGo => self.put_go(block, now, log),
-            Body::PutDone => self.put_done(block),
-            Body::DataE(content) => self.data_exclusive(block, message.tag, content, log),
-            _ => unreachable!(),
+        match receiver_of(&message.body) {
+            Receiver::Cache(row) => self.do_row(&row, message, now, log),
+            Receiver::Home(_) | Receiver::Controller(_) | Receiver::Clock(_) => {
+                CacheStep::Took(None, None)
+            }
         }
     }
 
-    /// How many messages the row of the message sends.
-    fn sends(&self, message: &Message) -> u8
-        ensures { (entries : List LogEntry) (home now : ℕ) →
-            result ≡ length (row_by (with_entries self.now entries) home message.now.block now message.now.tag message.now.body).sends }
+    /// Does a row, for which the log has room.
+    fn do_row(
+        &mut self,
+        row: &CacheRow,
+        message: &Message,
+        now: Interval,
+        log: &mut LogBuffer,
+    ) -> CacheStep
+        requires meets { MeetsCacheRow (with_entries self.old log.old.entries) message.now.block row.now }
+        requires last { IsNoteInOrder log.old.entries false message.now.block (noted_by_cache now message.now.tag row.now) }
+        requires room { is_over log.old (reply_of self.old log.old now message.now row.now) ≡ false }
+        ensures done { IsRowDone self.old self.new result (reply_of self.old log.old now message.now row.now) }
+        ensures log { log.new ≡ record log.old { entries = (reply_of self.old log.old now message.now row.now).after.log } }
     {
-        match message.body {
-            Body::FwdGetS(_) | Body::FwdGetM(_, _) | Body::Inv(_) | Body::PutGo => 1,
-            Body::DataS(_) | Body::DataE(_) => self.sends_when_answered(0),
-            Body::DataM(_, due) | Body::UpgOk(due) => self.sends_when_answered(due),
-            Body::InvAck => self.sends_when_acknowledged(),
-            _ => 0,
+        let block = message.block;
+        match *row {
+            CacheRow::ForwardRead(requester) => self.forward_read(block, requester),
+            CacheRow::ForwardWrite(requester, due) => {
+                self.forward_write(block, now, requester, due, log)
+            }
+            CacheRow::Invalidate(requester) => self.invalidate(block, requester),
+            CacheRow::DataShared(content) => self.data_shared(block, message.tag, content),
+            CacheRow::DataModified(content, due) => {
+                self.data_modified(block, message.tag, content, due, log)
+            }
+            CacheRow::UpgradeGranted(due) => self.upgrade_granted(block, message.tag, due),
+            CacheRow::Acknowledge => self.acknowledge(block),
+            CacheRow::PutGo => self.put_go(block, now, log),
+            CacheRow::PutDone => self.put_done(block),
+            CacheRow::DataExclusive(content) => {
+                self.data_exclusive(block, message.tag, content, log)
+            }
+        }
+    }
+
+    /// How many messages a row sends.
+    fn count_sends(&self, row: &CacheRow) -> u8
+        ensures { (entries : List LogEntry) (home block now tag : ℕ) →
+            result ≡ length (cache_reply (with_entries self.now entries) home block now tag row.now).sends }
+    {
+        match *row {
+            CacheRow::ForwardRead(_) | CacheRow::ForwardWrite(_, _) | CacheRow::Invalidate(_) => 1,
+            CacheRow::DataShared(_) | CacheRow::DataExclusive(_) => self.sends_when_answered(0),
+            CacheRow::DataModified(_, due) | CacheRow::UpgradeGranted(due) => {
+                self.sends_when_answered(due)
+            }
+            CacheRow::Acknowledge => self.sends_when_acknowledged(),
+            CacheRow::PutGo => 1,
+            CacheRow::PutDone => 0,
         }
     }
 

@@ -8,8 +8,7 @@ use Rattle.sn_base.specs.declared.config.Config.{Config}
 use Rattle.sn_base.specs.declared.event.Answer.TheVariants.{Delivered, Held, NotArrived}
 use Rattle.sn_msg.specs.declared.Message.{Message}
 use Rattle.sn_msg.specs.declared.Body.{Body}
-use Rattle.sn_msg.specs.declared.Body.TheVariants.{GetS, GetM, FwdGetS, FwdGetM, Inv, DataS, DataM, DataE, UpgOk, InvAck, Unblock, PutReq}
-use Rattle.sn_msg.specs.declared.Body.TheVariants.{PutGo, PutData, PutDone, Ready, Advance}
+use Rattle.sn_msg.specs.declared.Body.TheVariants.{Ready, Advance}
 use Rattle.switch_net.specs.declared.flight.Flight.{Flight as Carried}
 use Rattle.switch_net.specs.declared.answers.TakeFault.{TakeFault}
 use Rattle.switch_net.specs.declared.answers.TakeFault.TheVariants as fault
@@ -18,12 +17,12 @@ use Rattle.sn_model.specs.Fabric.{Fabric, Flight, FabricStep, node_at, step_refu
 use Rattle.sn_model.specs.FabricEvents.{moved_by, Deliver}
 use Rattle.sn_model.specs.Net.{flight_of}
 use Rattle.sn_model.specs.NetEvents.{outcome_of, delivers, delivers_flight, step_of_delivery}
-use Rattle.sn_model.specs.Receivers.{comes_to_cache, comes_to_home}
+use Rattle.sn_model.specs.Receivers.{receiver_of}
+use Rattle.sn_model.specs.declared.rows.Receiver.TheVariants.{Controller, Clock}
 use Rattle.fabric_bounds.specs.Coherent.{Keeps}
 use Rattle.fabric_bounds.specs.Steps.{IsInFlight}
 use Rattle.fabric_bounds.proofs.InFlight.{in_flight}
-use Rattle.sn_fabric.specs.declared.receiver.Receiver.TheVariants.{Cache, Home, Controller, Clock}
-use Rattle.sn_fabric.specs.Deliveries.{receiver_of, HasCome, fault_as}
+use Rattle.sn_fabric.specs.Deliveries.{HasCome, fault_as}
 use Rattle.sn_fabric.specs.Nets.{flight_as}
 use Rattle.sn_fabric.specs.Parts.{Parts, fabric_as}
 use Rattle.sn_fabric.proofs.Nets.{found-as, number-found, without-as}
@@ -141,80 +140,12 @@ fewer-without p m h =
     sym (ap (λ (fs : List Flight). length fs) (without-as p.net.flights m.id)) ∙ length-map (without p.net.flights m.id) flight_as in
     omega arith
 
--- who takes a message, in the theorems' words
-
-pub to-cache : (x : Body) → receiver_of x ≡ Cache → comes_to_cache x ≡ true
-to-cache (FwdGetS r) e = refl
-to-cache (FwdGetM r due) e = refl
-to-cache (Inv r) e = refl
-to-cache (DataS content) e = refl
-to-cache (DataM content due) e = refl
-to-cache (DataE content) e = refl
-to-cache (UpgOk due) e = refl
-to-cache InvAck e = refl
-to-cache PutGo e = refl
-to-cache PutDone e = refl
-to-cache GetS e = absurd (cc)
-to-cache GetM e = absurd (cc)
-to-cache (Unblock fixed) e = absurd (cc)
-to-cache PutReq e = absurd (cc)
-to-cache (PutData content) e = absurd (cc)
-to-cache (Ready k) e = absurd (cc)
-to-cache (Advance k) e = absurd (cc)
-
-pub to-home : (x : Body) → receiver_of x ≡ Home → comes_to_home x ≡ true
-to-home GetS e = refl
-to-home GetM e = refl
-to-home (Unblock fixed) e = refl
-to-home PutReq e = refl
-to-home (PutData content) e = refl
-to-home (FwdGetS r) e = absurd (cc)
-to-home (FwdGetM r due) e = absurd (cc)
-to-home (Inv r) e = absurd (cc)
-to-home (DataS content) e = absurd (cc)
-to-home (DataM content due) e = absurd (cc)
-to-home (DataE content) e = absurd (cc)
-to-home (UpgOk due) e = absurd (cc)
-to-home InvAck e = absurd (cc)
-to-home PutGo e = absurd (cc)
-to-home PutDone e = absurd (cc)
-to-home (Ready k) e = absurd (cc)
-to-home (Advance k) e = absurd (cc)
+-- the news that a message brings, by who takes it
 
 pub is-ready : (x : Body) (k : ℕ) → receiver_of x ≡ Controller k → x ≡ Ready k
 is-ready (Ready j) k e = let same : j ≡ k = cc in ap Ready same
-is-ready GetS k e = absurd (cc)
-is-ready GetM k e = absurd (cc)
-is-ready (Unblock fixed) k e = absurd (cc)
-is-ready PutReq k e = absurd (cc)
-is-ready (PutData content) k e = absurd (cc)
-is-ready (Advance j) k e = absurd (cc)
-is-ready (FwdGetS r) k e = absurd (cc)
-is-ready (FwdGetM r due) k e = absurd (cc)
-is-ready (Inv r) k e = absurd (cc)
-is-ready (DataS content) k e = absurd (cc)
-is-ready (DataM content due) k e = absurd (cc)
-is-ready (DataE content) k e = absurd (cc)
-is-ready (UpgOk due) k e = absurd (cc)
-is-ready InvAck k e = absurd (cc)
-is-ready PutGo k e = absurd (cc)
-is-ready PutDone k e = absurd (cc)
+is-ready _ k e = absurd (cc)
 
 pub is-advance : (x : Body) (k : ℕ) → receiver_of x ≡ Clock k → x ≡ Advance k
 is-advance (Advance j) k e = let same : j ≡ k = cc in ap Advance same
-is-advance GetS k e = absurd (cc)
-is-advance GetM k e = absurd (cc)
-is-advance (Unblock fixed) k e = absurd (cc)
-is-advance PutReq k e = absurd (cc)
-is-advance (PutData content) k e = absurd (cc)
-is-advance (Ready j) k e = absurd (cc)
-is-advance (FwdGetS r) k e = absurd (cc)
-is-advance (FwdGetM r due) k e = absurd (cc)
-is-advance (Inv r) k e = absurd (cc)
-is-advance (DataS content) k e = absurd (cc)
-is-advance (DataM content due) k e = absurd (cc)
-is-advance (DataE content) k e = absurd (cc)
-is-advance (UpgOk due) k e = absurd (cc)
-is-advance InvAck k e = absurd (cc)
-is-advance PutGo k e = absurd (cc)
-is-advance PutDone k e = absurd (cc)
+is-advance _ k e = absurd (cc)

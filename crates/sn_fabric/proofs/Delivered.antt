@@ -9,13 +9,14 @@ use Rattle.sn_msg.specs.declared.Message.{Message}
 use Rattle.switch_net.specs.declared.answers.TakeFault.{TakeFault}
 use Rattle.switch_net.specs.declared.answers.TakeFault.TheVariants as fault
 use Rattle.switch_net.specs.Net.{find_flight, take_answer}
+use Rattle.sn_model.specs.declared.rows.Receiver.TheVariants.{Controller, Clock}
+use Rattle.sn_model.specs.Receivers.{receiver_of}
 use Rattle.sn_model.specs.Fabric.{Fabric, Flight, Node, FabricStep, node_at, step_refused}
 use Rattle.sn_model.specs.Net.{flight_of, is_there}
 use Rattle.sn_model.specs.NetEvents.{Outcome, Busy, AtCache, AtHome, Noted, outcome_of, delivers, delivers_flight, step_of_delivery}
 use Rattle.sn_model.specs.NetEvents.{answer_to}
 use Rattle.sn_fabric.specs.declared.node.NodeUnit.{NodeUnit}
-use Rattle.sn_fabric.specs.declared.receiver.Receiver.TheVariants.{Controller, Clock}
-use Rattle.sn_fabric.specs.Deliveries.{receiver_of, HasCome, fault_as}
+use Rattle.sn_fabric.specs.Deliveries.{HasCome, fault_as}
 use Rattle.sn_fabric.specs.Fabric.{FabricData, IsAfter}
 use Rattle.sn_fabric.specs.Parts.{Parts, fabric_as, AreParts}
 use Rattle.sn_fabric.proofs.Come.{come-held, come-reached, fault-shown, is-ready, is-advance}

@@ -19,10 +19,12 @@ use Rattle.sn_model.specs.declared.cache.LineState.TheVariants as state
 use Rattle.sn_model.specs.declared.cache.Need.{Need}
 use Rattle.sn_model.specs.Access.{missing, step_of_miss, misses, has_miss, serves, lacks_room, with_write, fabric_with_write, accesses, step_of_access}
 use Rattle.sn_model.specs.Caches.{line_of, is_present, misses_on, puts_on, frames_taken, with_line}
+use Rattle.sn_model.specs.declared.rows.HomeMessage.{HomeMessage}
+use Rattle.sn_model.specs.declared.rows.HomeMessage.TheVariants as asked
 use Rattle.sn_model.specs.CacheRows.{Logged, CacheReply, content_of, taken_over, forward_read, forward_write, invalidate, put_go, put_done}
 use Rattle.sn_model.specs.CacheRows.{data_shared, data_modified, data_exclusive, upgrade_granted, acknowledge, fixed_at, miss_with_ack}
 use Rattle.sn_model.specs.Homes.{Transaction}
-use Rattle.sn_model.specs.HomeRows.{HomeReply, put_data, unblock}
+use Rattle.sn_model.specs.HomeRows.{HomeReply, home_reply, home_row}
 use Rattle.sn_model.specs.Fabric.{Fabric, Flight, Node, FabricStep, first_node, node_at, home_of, home_node, step_refused, step_with_answer}
 use Rattle.sn_model.specs.FabricEvents.{FabricEvent, Access, Write, Evict, Edge, Hop, Deliver, Lose, Kill, Report, Advance as Advances}
 use Rattle.sn_model.specs.FabricEvents.{Recover, moved_by}
@@ -42,8 +44,7 @@ use Rattle.fabric_bounds.proofs.NodesStay.{nodes_same}
 use Rattle.fabric_bounds.proofs.Recovery.{each_node}
 use Rattle.fabric_bounds.proofs.RowsMet.{meets_home}
 use Rattle.sn_fabric.specs.Logs.{IsOwnLog, AreOwnLogs}
-use Rattle.sn_fabric.proofs.LogRows.{nothing-own, content-own, from-own, get-shared-own, get-modified-own, put-request-own, unblock-own}
-use Rattle.sn_fabric.proofs.LogRows.{put-data-own, completed_or_waiting-log}
+use Rattle.sn_fabric.proofs.LogRows.{nothing-own, content-own, from-own, row-own, completed_or_waiting-log}
 
 -- what an event makes of each log
 record KeepsLogs (s : Fabric) (x : FabricStep) : Type 0 where
@@ -195,24 +196,24 @@ module _ (config : Config) (s : Fabric) (t : GhostState) (id : ℕ) (f : Flight)
       KeepsLogs s (delivers config s f.message (AtCache reply))
   miss-keeps reply log e h = cache-keeps reply (λ own. subst Own (sym e) (h own))
 
+  -- what a row of the home leaves
+  abbrev leaves : HomeMessage → HomeReply
+  leaves message =
+      home_reply (kept_at s f.message.to f.message.block) f.message.block now f.message.tag f.message.from
+      (home_row (home_of s f.message.block) f.message.from message)
+
+  row-keeps : (message : HomeMessage) → f.message.block % length s.nodes ≡ f.message.to → Own (node_at s f.message.to).log →
+      Own (leaves message).after.log
+  row-keeps message here own =
+      row-own (length s.nodes) f.message.to (kept_at s f.message.to f.message.block) f.message.block here own now f.message.tag
+      f.message.from (home_row (home_of s f.message.block) f.message.from message)
+
   body-keeps : (x : Body) → f.message.body ≡ x → KeepsLogs s (delivers config s f.message (outcome_of s f.message x))
-  body-keeps GetS is = request-keeps _ (home_of s f.message.block).transaction
-      (λ own. get-shared-own (length s.nodes) f.message.to (kept_at s f.message.to f.message.block) f.message.block
-      (at_home GetS is refl) own now f.message.from (home_of s f.message.block).holder)
-  body-keeps GetM is = request-keeps _ (home_of s f.message.block).transaction
-      (λ own. get-modified-own (length s.nodes) f.message.to (kept_at s f.message.to f.message.block) f.message.block
-      (at_home GetM is refl) own now f.message.from (home_of s f.message.block).holder)
-  body-keeps PutReq is = request-keeps _ (home_of s f.message.block).transaction
-      (λ own. put-request-own (length s.nodes) f.message.to (kept_at s f.message.to f.message.block) f.message.block
-      (at_home PutReq is refl) own now f.message.from)
-  body-keeps (Unblock fixed) is =
-      home-keeps (unblock (kept_at s f.message.to f.message.block) f.message.block fixed (home_of s f.message.block).transaction)
-      (λ own. unblock-own (length s.nodes) f.message.to (kept_at s f.message.to f.message.block) f.message.block
-      (at_home (Unblock fixed) is refl) own fixed (home_of s f.message.block).transaction)
-  body-keeps (PutData content) is =
-      home-keeps (put_data (kept_at s f.message.to f.message.block) f.message.block f.message.tag f.message.from content)
-      (λ own. put-data-own (length s.nodes) f.message.to (kept_at s f.message.to f.message.block) f.message.block
-      (at_home (PutData content) is refl) own f.message.tag f.message.from content)
+  body-keeps GetS is = request-keeps (leaves asked.GetS) (home_of s f.message.block).transaction (row-keeps asked.GetS (at_home GetS is refl))
+  body-keeps GetM is = request-keeps (leaves asked.GetM) (home_of s f.message.block).transaction (row-keeps asked.GetM (at_home GetM is refl))
+  body-keeps PutReq is = request-keeps (leaves asked.PutReq) (home_of s f.message.block).transaction (row-keeps asked.PutReq (at_home PutReq is refl))
+  body-keeps (Unblock fixed) is = home-keeps (leaves (asked.Unblock fixed)) (row-keeps (asked.Unblock fixed) (at_home (Unblock fixed) is refl))
+  body-keeps (PutData content) is = home-keeps (leaves (asked.PutData content)) (row-keeps (asked.PutData content) (at_home (PutData content) is refl))
   body-keeps (FwdGetS r) is = cache-keeps (forward_read at f.message.block r) (λ own. own)
   body-keeps (FwdGetM r due) is = cache-keeps (forward_write at f.message.block now r due)
       (content-own (length s.nodes) f.message.to (node_at s f.message.to).log now f.message.block (content_of at f.message.block))

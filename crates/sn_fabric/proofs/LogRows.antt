@@ -8,12 +8,12 @@ use Rattle.log_buffer.specs.Log.{LogEntry, is_of_side, log_with_note, entries_fr
 use Rattle.log_buffer.proofs.Laws.{logged_to-noted_other, logged_to-from}
 use Rattle.sn_model.specs.declared.home.Kind.{Kind}
 use Rattle.sn_model.specs.declared.home.Kind.TheVariants.{Read, Take, Move, Upgrade, Put}
+use Rattle.sn_model.specs.declared.rows.HomeRow.{HomeRow}
+use Rattle.sn_model.specs.declared.rows.HomeRow.TheVariants as row
 use Rattle.sn_model.specs.Caches.{Miss}
 use Rattle.sn_model.specs.CacheRows.{Logged, reply_when_complete, reply_that_waits, reply_or_wait_by, reply_or_wait}
-use Rattle.sn_model.specs.Homes.{Holder, Itself, OfCache, Transaction, is_owner}
-use Rattle.sn_model.specs.HomeRows.{LoggedEntry, count_others, noted_owner, unblock_of, unblock, grant_exclusive, read_at_home, upgrade}
-use Rattle.sn_model.specs.HomeRows.{move_ownership, put_begins, put_is_stale, put_data}
-use Rattle.sn_model.specs.NetEvents.{get_shared, get_modified, put_request}
+use Rattle.sn_model.specs.Homes.{Holder, Itself, OfCache, Transaction}
+use Rattle.sn_model.specs.HomeRows.{LoggedEntry, noted_owner, unblock_of, unblock, home_reply}
 use Rattle.sn_fabric.specs.Logs.{IsOwnLog}
 
 and_false : (p q : Bool) → q ≡ false → (p && q) ≡ false
@@ -46,30 +46,6 @@ module _ (nodes n : ℕ) where
 
   -- the rows of a home
   module _ (at : LoggedEntry) (block : ℕ) (here : block % nodes ≡ n) (own : IsOwnLog nodes n at.log) where
-    pub get-shared-own : (now r : ℕ) (holder : Holder) → IsOwnLog nodes n (get_shared at block now r holder).after.log
-    get-shared-own now r (Itself content) = by_test (nat_eq (count_others at.entry.sharers r) 0)
-      where
-        by_test : (t : Bool) → IsOwnLog nodes n
-            (if t then grant_exclusive at block now r content else read_at_home at now r content).after.log
-        by_test true = home-own at.log now block (WasHome content) here own
-        by_test false = own
-    get-shared-own now r (OfCache owner) = own
-
-    pub get-modified-own : (now r : ℕ) (holder : Holder) → IsOwnLog nodes n (get_modified at block now r holder).after.log
-    get-modified-own now r (Itself content) = home-own at.log now block (WasHome content) here own
-    get-modified-own now r (OfCache owner) = by_test (nat_eq owner r)
-      where
-        by_test : (t : Bool) → IsOwnLog nodes n (if t then upgrade at now r else move_ownership at now r owner).after.log
-        by_test true = own
-        by_test false = own
-
-    pub put-request-own : (now r : ℕ) → IsOwnLog nodes n (put_request at now r).after.log
-    put-request-own now r = by_test (is_owner at.entry.holder r)
-      where
-        by_test : (t : Bool) → IsOwnLog nodes n (if t then put_begins at now r else put_is_stale at r).after.log
-        by_test true = own
-        by_test false = own
-
     owner-own : (fixed : ℕ) (holder : Holder) → IsOwnLog nodes n (noted_owner at.log fixed block holder)
     owner-own fixed (Itself content) = own
     owner-own fixed (OfCache owner) = home-own at.log fixed block (WasCache owner) here own
@@ -81,12 +57,21 @@ module _ (nodes n : ℕ) where
     kind-own fixed r Upgrade = own
     kind-own fixed r Put = own
 
-    pub unblock-own : (fixed : ℕ) (open_one : Option Transaction) → IsOwnLog nodes n (unblock at block fixed open_one).after.log
+    unblock-own : (fixed : ℕ) (open_one : Option Transaction) → IsOwnLog nodes n (unblock at block fixed open_one).after.log
     unblock-own fixed None = own
     unblock-own fixed (Some transaction) = kind-own fixed transaction.requester transaction.kind
 
-    pub put-data-own : (tag r : ℕ) (content : List ℕ) → IsOwnLog nodes n (put_data at block tag r content).after.log
-    put-data-own tag r content = home-own at.log tag block (WasCache r) here own
+    pub row-own : (now tag r : ℕ) (taken : HomeRow) → IsOwnLog nodes n (home_reply at block now tag r taken).after.log
+    row-own now tag r (row.ReadAtHome content) = own
+    row-own now tag r (row.ReadAtOwner owner) = own
+    row-own now tag r (row.Take content) = home-own at.log now block (WasHome content) here own
+    row-own now tag r (row.MoveOwnership owner) = own
+    row-own now tag r row.Upgrade = own
+    row-own now tag r (row.Unblock fixed) = unblock-own fixed at.entry.transaction
+    row-own now tag r row.PutBegins = own
+    row-own now tag r row.PutIsStale = own
+    row-own now tag r (row.PutData content) = home-own at.log tag block (WasCache r) here own
+    row-own now tag r (row.GrantExclusive content) = home-own at.log now block (WasHome content) here own
 
 -- a miss that completes notes nothing
 completed_or_waiting_by-log : (at : Logged) (home : ℕ) (miss : Miss) (fixed : Option ℕ) →

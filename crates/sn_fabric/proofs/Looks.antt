@@ -5,15 +5,17 @@ use Rattle.sn_base.specs.declared.event.Answer.TheVariants.{Delivered, LogFull, 
 use Rattle.sn_base.specs.declared.log.LogEntry.{LogEntry}
 use Rattle.sn_msg.specs.declared.Message.{Message}
 use Rattle.sn_msg.specs.declared.Body.{Body}
-use Rattle.sn_msg.specs.declared.Body.TheVariants.{GetS, GetM, Unblock, PutReq, PutData}
 use Rattle.log_buffer.specs.Log.{LogData}
 use Rattle.mosi_cache.specs.Rows.{look_by}
-use Rattle.home_directory.specs.Receipt.{look_of, verdict_on, outcome_at}
+use Rattle.home_directory.specs.Receipt.{look_of, verdict_on, outcome_for, outcome_at}
 use Rattle.sn_model.specs.declared.cache.Out.{Out}
 use Rattle.sn_model.specs.declared.look.Look.TheVariants.{Sends, LogFull as SeesLogFull}
+use Rattle.sn_model.specs.declared.rows.Receiver.{Receiver}
+use Rattle.sn_model.specs.declared.rows.Receiver.TheVariants as receiver
+use Rattle.sn_model.specs.Receivers.{receiver_of}
 use Rattle.sn_model.specs.Homes.{Transaction}
 use Rattle.sn_model.specs.CacheRows.{CacheReply}
-use Rattle.sn_model.specs.HomeRows.{LoggedEntry, HomeReply}
+use Rattle.sn_model.specs.HomeRows.{LoggedEntry, HomeReply, home_reply, home_row, is_request}
 use Rattle.sn_model.specs.Fabric.{Fabric, FabricStep, step_refused}
 use Rattle.sn_model.specs.NetEvents.{Outcome, Busy, AtCache, AtHome, Noted, unless_busy, fits_in, delivers}
 use Rattle.sn_fabric.specs.Deliveries.{look_answer}
@@ -48,13 +50,19 @@ unless_busy_there : (o : Option Transaction) (reply : HomeReply) → IsAtHome (u
 unless_busy_there None reply = tt
 unless_busy_there (Some transaction) reply = tt
 
+asked_there : (asks : Bool) (o : Option Transaction) (reply : HomeReply) → IsAtHome (if asks then unless_busy o reply else AtHome reply)
+asked_there true o reply = unless_busy_there o reply
+asked_there false o reply = tt
+
+receiver_there : (at : LoggedEntry) (now : ℕ) (m : Message) (x : Receiver) → IsAtHome (outcome_for at now m x)
+receiver_there at now m (receiver.Home message) =
+    asked_there (is_request message) at.entry.transaction (home_reply at m.block now m.tag m.from (home_row at.entry m.from message))
+receiver_there at now m (receiver.Cache taken) = tt
+receiver_there at now m (receiver.Controller k) = tt
+receiver_there at now m (receiver.Clock k) = tt
+
 outcome_there : (at : LoggedEntry) (now : ℕ) (m : Message) (x : Body) → IsAtHome (outcome_at at now m x)
-outcome_there at now m GetS = unless_busy_there at.entry.transaction _
-outcome_there at now m GetM = unless_busy_there at.entry.transaction _
-outcome_there at now m PutReq = unless_busy_there at.entry.transaction _
-outcome_there at now m (Unblock fixed) = tt
-outcome_there at now m (PutData content) = tt
-outcome_there at now m _ = tt
+outcome_there at now m x = receiver_there at now m (receiver_of x)
 
 judged_over : (s : Fabric) (over : Bool) (limit : ℕ) (flights : ℕ) (reply : HomeReply) (done : FabricStep) →
     nat_lt limit (length reply.after.log) ≡ over → done.answer ≡ Delivered →

@@ -1,5 +1,5 @@
 -- What a delivery to a cache comes to, by what the parts say.
-use Rattle.std.proofs.Common.{◌≡◌, ℕ, ◌+◌, ◌%◌, ◌<◌, ◌≤◌, Bool, false, List, length, get_or, set, refl, sym, ap, ◌∙◌, subst, length-set}
+use Rattle.std.proofs.Common.{◌≡◌, ℕ, ◌+◌, ◌%◌, ◌<◌, ◌≤◌, Bool, true, false, List, length, get_or, set, refl, sym, ap, ◌∙◌, subst, length-set}
 use Rattle.std.specs.Prelude.{nat_lt, if◌then◌else◌, Option}
 use Rattle.std.proofs.lemmas.List.{length-map, map-set, get_or-set_same}
 use Rattle.sn_base.specs.declared.config.Config.{Config}
@@ -21,16 +21,15 @@ use Rattle.sn_model.specs.Fabric.{Fabric, Node, Net, FabricStep, node_at, with_n
 use Rattle.sn_model.specs.FabricEvents.{Deliver}
 use Rattle.sn_model.specs.Net.{net_after_sends, sent_by, sending, without_flight}
 use Rattle.sn_model.specs.NetEvents.{AtCache, logged_at, node_after, copy_lost, outcome_of, delivers, step_of_delivery, answer_to}
-use Rattle.sn_model.specs.Receivers.{IsNoteInOrder}
+use Rattle.sn_model.specs.Receivers.{comes_to_cache, IsNoteInOrder}
 use Rattle.fabric_bounds.specs.Met.{MeetsCache}
 use Rattle.fabric_bounds.specs.Steps.{after_cache}
 use Rattle.fabric_bounds.proofs.RowsMet.{meets_cache}
 use Rattle.sn_fabric.specs.declared.node.NodeUnit.{NodeUnit}
-use Rattle.sn_fabric.specs.declared.receiver.Receiver.TheVariants.{Cache}
-use Rattle.sn_fabric.specs.Deliveries.{receiver_of, HasCome, look_answer, out_of, lost_by, outs_of, unit_after, GoTo}
+use Rattle.sn_fabric.specs.Deliveries.{HasCome, look_answer, out_of, lost_by, outs_of, unit_after, GoTo}
 use Rattle.sn_fabric.specs.Nets.{flight_as, net_as}
 use Rattle.sn_fabric.specs.Parts.{Parts, fabric_as, node_as, unit_at, no_unit, IsUnit, AreWhole, AreParts}
-use Rattle.sn_fabric.proofs.Come.{come-reached, reached-of, deliver_is_moved, to-cache}
+use Rattle.sn_fabric.proofs.Come.{come-reached, reached-of, deliver_is_moved}
 use Rattle.sn_fabric.proofs.Given.{taken, taken-as, taken-room, in-flight, inside, goes-there, node-read, serves}
 use Rattle.sn_fabric.proofs.GoingTo.{undead, undead-come, cache-sends-go}
 use Rattle.sn_fabric.proofs.Looks.{cache-looks, HasRoomFor, room-for, fits-then}
@@ -38,7 +37,7 @@ use Rattle.sn_fabric.proofs.Parts.{count-nodes, whole-unit, whole-net, Comes}
 use Rattle.sn_fabric.proofs.Outs.{one-sent}
 use Rattle.sn_fabric.proofs.Sends.{sends-come}
 
-module _ (config : Config) (p : Parts) (a : AreParts config p) (m : Message) (h : HasCome (fabric_as p) m) (c : receiver_of m.body ≡ Cache) (place now : ℕ) (x : NodeUnit) (ep : place ≡ m.to) (ex : x ≡ get_or p.units place x) (en : now ≡ x.clock.interval) where
+module _ (config : Config) (p : Parts) (a : AreParts config p) (m : Message) (h : HasCome (fabric_as p) m) (c : comes_to_cache m.body ≡ true) (place now : ℕ) (x : NodeUnit) (ep : place ≡ m.to) (ex : x ≡ get_or p.units place x) (en : now ≡ x.clock.interval) where
   abbrev s : Fabric
   s = fabric_as p
 
@@ -49,7 +48,7 @@ module _ (config : Config) (p : Parts) (a : AreParts config p) (m : Message) (h 
   is = serves config p a m h place x ep ex
 
   meets : MeetsCache s m
-  meets = meets_cache s a.keeps.0 m (in-flight config p a m h) a.keeps.1 (to-cache m.body c)
+  meets = meets_cache s a.keeps.0 m (in-flight config p a m h) a.keeps.1 c
 
   -- what the cache asks of the message
   pub cache-mine : m.to ≡ x.cache.node

@@ -20,16 +20,15 @@ use Rattle.sn_model.specs.Fabric.{Fabric, Node, Net, FabricStep, node_at, home_o
 use Rattle.sn_model.specs.FabricEvents.{Deliver}
 use Rattle.sn_model.specs.Net.{net_after_sends, sent_by, sending, without_flight}
 use Rattle.sn_model.specs.NetEvents.{Outcome, kept_at, home_after, outcome_of, delivers, step_of_delivery, answer_to}
-use Rattle.sn_model.specs.Receivers.{IsNoteInOrder}
+use Rattle.sn_model.specs.Receivers.{comes_to_home, IsNoteInOrder}
 use Rattle.fabric_bounds.specs.Met.{MeetsHome}
 use Rattle.fabric_bounds.specs.Steps.{IsInFlight, after_home}
 use Rattle.fabric_bounds.proofs.RowsMet.{meets_home}
 use Rattle.sn_fabric.specs.declared.node.NodeUnit.{NodeUnit}
-use Rattle.sn_fabric.specs.declared.receiver.Receiver.TheVariants.{Home}
-use Rattle.sn_fabric.specs.Deliveries.{receiver_of, HasCome, look_answer, home_outs, GoTo}
+use Rattle.sn_fabric.specs.Deliveries.{HasCome, look_answer, home_outs, GoTo}
 use Rattle.sn_fabric.specs.Nets.{flight_as, net_as}
 use Rattle.sn_fabric.specs.Parts.{Parts, fabric_as, node_as, unit_at, no_unit, home_at, no_home, IsUnit, IsHomeOf, AreWhole, AreParts}
-use Rattle.sn_fabric.proofs.Come.{come-reached, reached-of, deliver_is_moved, to-home}
+use Rattle.sn_fabric.proofs.Come.{come-reached, reached-of, deliver_is_moved}
 use Rattle.sn_fabric.proofs.Entries.{entry-as}
 use Rattle.sn_fabric.proofs.Given.{taken, taken-as, taken-room, in-flight, inside, goes-there, node-read, serves}
 use Rattle.sn_fabric.proofs.GoingTo.{undead, undead-come, home-sends-go}
@@ -39,7 +38,7 @@ use Rattle.sn_fabric.proofs.Outs.{home-outs}
 use Rattle.sn_fabric.proofs.Parts.{count-nodes, whole-unit, whole-net, Comes}
 use Rattle.sn_fabric.proofs.Sends.{sends-come}
 
-module _ (config : Config) (p : Parts) (a : AreParts config p) (m : Message) (h : HasCome (fabric_as p) m) (c : receiver_of m.body ≡ Home)
+module _ (config : Config) (p : Parts) (a : AreParts config p) (m : Message) (h : HasCome (fabric_as p) m) (c : comes_to_home m.body ≡ true)
     (place now : ℕ) (x : NodeUnit) (ep : place ≡ m.to) (ex : x ≡ get_or p.units place x) (en : now ≡ x.clock.interval)
     (home : HomeData) (eh : home ≡ get_or p.homes place home) where
   abbrev s : Fabric
@@ -55,7 +54,7 @@ module _ (config : Config) (p : Parts) (a : AreParts config p) (m : Message) (h 
   is = serves config p a m h place x ep ex
 
   meets : MeetsHome s m
-  meets = meets_home s a.keeps.0 m flight a.keeps.1 (to-home m.body c)
+  meets = meets_home s a.keeps.0 m flight a.keeps.1 c
 
   -- the home is that of the message's block
   here : m.to ≡ m.block % config.nodes

@@ -12,6 +12,8 @@ use Rattle.switch_net.specs.Net.{NetData}
 use Rattle.sn_model.specs.declared.net.Sent.{Sent}
 use Rattle.sn_model.specs.declared.net.News.{News}
 use Rattle.sn_model.specs.declared.net.News.TheVariants as told
+use Rattle.sn_model.specs.declared.rows.Receiver.TheVariants.{Controller, Clock}
+use Rattle.sn_model.specs.Receivers.{receiver_of}
 use Rattle.sn_model.specs.Fabric.{Fabric, Node, Net, FabricStep, first_node, node_at, with_node, with_net}
 use Rattle.sn_model.specs.FabricEvents.{Deliver}
 use Rattle.sn_model.specs.Net.{without_flight}
@@ -21,8 +23,7 @@ use Rattle.fabric_bounds.specs.Coherent.{Keeps}
 use Rattle.fabric_bounds.specs.View.{block_seen}
 use Rattle.fabric_bounds.proofs.KeptEvents.{each_keeps}
 use Rattle.sn_fabric.specs.declared.node.NodeUnit.{NodeUnit}
-use Rattle.sn_fabric.specs.declared.receiver.Receiver.TheVariants.{Controller, Clock}
-use Rattle.sn_fabric.specs.Deliveries.{receiver_of, HasCome}
+use Rattle.sn_fabric.specs.Deliveries.{HasCome}
 use Rattle.sn_fabric.specs.Parts.{Parts, fabric_as, node_as, IsUnit, AreParts}
 use Rattle.sn_fabric.proofs.Come.{come-reached, reached-of, deliver_is_moved, is-ready, is-advance}
 use Rattle.sn_fabric.proofs.Given.{taken, taken-as, in-flight, inside, node-read, serves}

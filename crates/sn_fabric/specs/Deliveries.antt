@@ -1,11 +1,10 @@
--- What a delivery is to the parts: who takes a message, what a cache or a home says of it, and what is sent then.
+-- What a delivery is to the parts: what a cache or a home says of a message, and what is sent then.
 use Rattle.std.specs.Prelude.{◌≡◌, ℕ, zero, suc, ◌+◌, ◌<◌, Bool, true, ⊤, nat_lt, if◌then◌else◌, List, [], ◌∷◌, ◌++◌, Option, Some, None}
 use Rattle.std.specs.Option.{option_map}
 use Rattle.sn_base.specs.Nodes.{has_node}
 use Rattle.sn_base.specs.declared.event.Answer.{Answer}
 use Rattle.sn_base.specs.declared.event.Answer.TheVariants.{Delivered, HomeBusy, LogFull, NetFull, NoMessage, NotArrived}
-use Rattle.sn_msg.specs.declared.Body.{Body}
-use Rattle.sn_msg.specs.declared.Body.TheVariants.{GetS, GetM, Inv, Unblock, PutReq, PutData, Ready, Advance}
+use Rattle.sn_msg.specs.declared.Body.TheVariants.{Inv}
 use Rattle.sn_msg.specs.declared.Message.{Message}
 use Rattle.switch_net.specs.declared.answers.TakeFault.{TakeFault}
 use Rattle.switch_net.specs.declared.answers.TakeFault.TheVariants as fault
@@ -23,19 +22,6 @@ use Rattle.sn_model.specs.Fabric.{Fabric}
 use Rattle.sn_model.specs.Net.{flight_of, is_there}
 use Rattle.mosi_cache.specs.Rows.{cache_by, log_by}
 use Rattle.sn_fabric.specs.declared.node.NodeUnit.{NodeUnit}
-use Rattle.sn_fabric.specs.declared.receiver.Receiver.{Receiver}
-use Rattle.sn_fabric.specs.declared.receiver.Receiver.TheVariants.{Cache, Home, Controller, Clock}
-
--- who takes a message
-abbrev pub receiver_of : Body → Receiver
-receiver_of GetS = Home
-receiver_of GetM = Home
-receiver_of (Unblock fixed) = Home
-receiver_of PutReq = Home
-receiver_of (PutData content) = Home
-receiver_of (Ready k) = Controller k
-receiver_of (Advance k) = Clock k
-receiver_of _ = Cache
 
 -- a message that is in flight and stands in a switch of its receiver
 pub record HasCome (s : Fabric) (m : Message) : Type 0 where

@@ -1,22 +1,21 @@
 //! A delivery: a message that has arrived is taken by its receiver's cache or home, or heard of by the layer above.
-ghost use Rattle.std.specs.Prelude.{◌≡◌, ◌+◌, ◌<◌, ◌≤◌, false, ◌^◌, Some, None};
+ghost use Rattle.std.specs.Prelude.{◌≡◌, ◌+◌, ◌<◌, ◌≤◌, true, false, ◌^◌, Some, None};
 ghost use Rattle.sn_base.specs.declared.event.Answer.TheVariants.{Delivered};
 ghost use Rattle.sn_model.specs.Fabric.{node_at};
 ghost use Rattle.sn_model.specs.NetEvents.{step_of_delivery, answer_to};
 ghost use Rattle.sn_model.specs.CacheRows.{MeetsRow, noted_in};
-ghost use Rattle.sn_model.specs.Receivers.{IsNoteInOrder};
+ghost use Rattle.sn_model.specs.Receivers.{receiver_of, comes_to_cache, comes_to_home, IsNoteInOrder};
 ghost use Rattle.mosi_cache.specs.Controller.{with_entries};
 ghost use Rattle.mosi_cache.specs.Rows.{row_of, step_by};
 ghost use Rattle.sn_fabric.specs.Fabric.{IsAfter};
-ghost use Rattle.sn_fabric.specs.Deliveries.{receiver_of, HasCome, fault_as, look_answer, unit_after};
+ghost use Rattle.sn_fabric.specs.Deliveries.{HasCome, fault_as, look_answer, unit_after};
 
 use crate::node::NodeUnit;
-use crate::receiver::{Receiver, receiver_of};
 use crate::replies::{lost_by, out_of, post_one, post_step, take_out};
 use crate::{Fabric, News};
 use mosi_cache::CacheStep;
 use sn_base::{Answer, Interval, MsgId};
-use sn_model::Look;
+use sn_model::{Look, Receiver, receiver_of};
 use sn_msg::Message;
 use switch_net::TakeFault;
 
@@ -79,8 +78,8 @@ impl Fabric {
             return Answer::Held;
         }
         match receiver_of(&message.body) {
-            Receiver::Cache => self.foresee_at_cache(message),
-            Receiver::Home => self.foresee_at_home(message),
+            Receiver::Cache(_) => self.foresee_at_cache(message),
+            Receiver::Home(_) => self.foresee_at_home(message),
             Receiver::Controller(_) => Answer::Delivered,
             Receiver::Clock(_) => Answer::Delivered,
         }
@@ -89,7 +88,7 @@ impl Fabric {
     fn foresee_at_cache(&self, message: &Message) -> Answer
         requires come { HasCome self.now.fabric message.now }
         requires reached { message.now.tag ≤ (node_at self.now.fabric message.now.to).now }
-        requires receiver { receiver_of message.now.body ≡ Receiver.Cache }
+        requires receiver { comes_to_cache message.now.body ≡ true }
         ensures { result ≡ answer_to self.now.config self.now.fabric message.now }
     {
         let unit = &self.units[usize::from(message.to.number())];
@@ -101,7 +100,7 @@ impl Fabric {
     fn foresee_at_home(&self, message: &Message) -> Answer
         requires come { HasCome self.now.fabric message.now }
         requires reached { message.now.tag ≤ (node_at self.now.fabric message.now.to).now }
-        requires receiver { receiver_of message.now.body ≡ Receiver.Home }
+        requires receiver { comes_to_home message.now.body ≡ true }
         ensures { result ≡ answer_to self.now.config self.now.fabric message.now }
     {
         let place = usize::from(message.to.number());
@@ -159,8 +158,8 @@ impl Fabric {
         ensures told { result ≡ (step_of_delivery self.old.config self.old.fabric message.now.id).told }
     {
         match receiver_of(&message.body) {
-            Receiver::Cache => self.give_to_cache(message),
-            Receiver::Home => {
+            Receiver::Cache(_) => self.give_to_cache(message),
+            Receiver::Home(_) => {
                 self.give_to_home(message);
                 None
             }
@@ -171,7 +170,7 @@ impl Fabric {
 
     fn give_to_cache(&mut self, message: &Message) -> Option<News>
         requires come { HasCome self.old.fabric message.now }
-        requires receiver { receiver_of message.now.body ≡ Receiver.Cache }
+        requires receiver { comes_to_cache message.now.body ≡ true }
         requires numbers { self.old.fabric.net.next_id ≤ 2 ^ 63 }
         requires delivers { (step_of_delivery self.old.config self.old.fabric message.now.id).answer ≡ Delivered }
         ensures after { IsAfter self.old self.new Delivered (step_of_delivery self.old.config self.old.fabric message.now.id) }
@@ -190,7 +189,7 @@ impl Fabric {
     /// Of what a home does the layer above hears nothing.
     fn give_to_home(&mut self, message: &Message)
         requires come { HasCome self.old.fabric message.now }
-        requires receiver { receiver_of message.now.body ≡ Receiver.Home }
+        requires receiver { comes_to_home message.now.body ≡ true }
         requires numbers { self.old.fabric.net.next_id ≤ 2 ^ 63 }
         requires delivers { (step_of_delivery self.old.config self.old.fabric message.now.id).answer ≡ Delivered }
         ensures after { IsAfter self.old self.new Delivered (step_of_delivery self.old.config self.old.fabric message.now.id) }

@@ -23,7 +23,6 @@ mod evictions;
 mod foresight;
 mod node;
 mod points;
-mod receiver;
 mod recovery;
 mod replies;
 mod reports;

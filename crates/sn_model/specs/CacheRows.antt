@@ -5,14 +5,18 @@ use Rattle.std.specs.Prelude.{◌≡◌, ℕ, ◌+◌, ◌<◌, Bool, true, fals
 use Rattle.sn_base.specs.declared.log.LogEntry.{LogEntry}
 use Rattle.sn_base.specs.declared.log.Old.TheVariants.{NotOwned, Owned as WasOwned}
 use Rattle.sn_msg.specs.declared.Body.{Body}
-use Rattle.sn_msg.specs.declared.Body.TheVariants.{GetS, GetM, FwdGetS, FwdGetM, Inv, DataS, DataM, DataE, UpgOk, InvAck, Unblock, PutReq}
-use Rattle.sn_msg.specs.declared.Body.TheVariants.{PutGo, PutData, PutDone, Ready, Advance}
+use Rattle.sn_msg.specs.declared.Body.TheVariants.{DataS, DataM, InvAck, Unblock, PutData}
 use Rattle.sn_model.specs.declared.cache.LineState.{LineState}
 use Rattle.sn_model.specs.declared.cache.LineState.TheVariants.{Absent, Shared, Owned, Modified, Exclusive}
 use Rattle.sn_model.specs.declared.cache.Need.{Need}
 use Rattle.sn_model.specs.declared.cache.Need.TheVariants.{Read, Write}
 use Rattle.sn_model.specs.declared.cache.Out.{Out}
+use Rattle.sn_model.specs.declared.rows.CacheRow.{CacheRow}
+use Rattle.sn_model.specs.declared.rows.CacheRow.TheVariants as row
+use Rattle.sn_model.specs.declared.rows.Receiver.{Receiver}
+use Rattle.sn_model.specs.declared.rows.Receiver.TheVariants as receiver
 use Rattle.log_buffer.specs.Log.{log_with_note}
+use Rattle.sn_model.specs.Receivers.{receiver_of}
 use Rattle.sn_model.specs.Caches.{Cache, Miss, line_of, with_line, without_line, is_present, is_owned, puts_on}
 
 -- a cache with its node's log
@@ -205,54 +209,75 @@ data_exclusive at home block tag content =
 
 -- the row of each message
 
--- a message for which the cache has no row does nothing
+-- what a row leaves, for a block of this home, in the node's interval, with the message's tag
+abbrev pub cache_reply : Logged → ℕ → ℕ → ℕ → ℕ → CacheRow → CacheReply
+cache_reply at home block now tag (row.ForwardRead r) = forward_read at block r
+cache_reply at home block now tag (row.ForwardWrite r due) = forward_write at block now r due
+cache_reply at home block now tag (row.Invalidate r) = invalidate at block r
+cache_reply at home block now tag (row.DataShared content) = data_shared at home block tag content
+cache_reply at home block now tag (row.DataModified content due) = data_modified at home block tag content due
+cache_reply at home block now tag (row.UpgradeGranted due) = upgrade_granted at home tag due
+cache_reply at home block now tag row.Acknowledge = acknowledge at home
+cache_reply at home block now tag row.PutGo = put_go at home block now
+cache_reply at home block now tag row.PutDone = put_done at
+cache_reply at home block now tag (row.DataExclusive content) = data_exclusive at home block tag content
+
+-- the condition of a row
+abbrev pub MeetsCacheRow : Logged → ℕ → CacheRow → Type 0
+MeetsCacheRow at block (row.ForwardRead r) = MayForward at block
+MeetsCacheRow at block (row.ForwardWrite r due) = MayForward at block
+MeetsCacheRow at block (row.Invalidate r) = Unit {0}
+MeetsCacheRow at block (row.DataShared content) = MayTakeCopy at block
+MeetsCacheRow at block (row.DataModified content due) = MayTakeOwnership at block
+MeetsCacheRow at block (row.UpgradeGranted due) = MayUpgrade at block
+MeetsCacheRow at block row.Acknowledge = MayCount at.cache.miss block
+MeetsCacheRow at block row.PutGo = MayGiveBack at block
+MeetsCacheRow at block row.PutDone = MayClosePut at block
+MeetsCacheRow at block (row.DataExclusive content) = MayTakeCopy at block
+
+-- the interval in which a row notes, where it does
+abbrev pub noted_by_cache : ℕ → ℕ → CacheRow → Option ℕ
+noted_by_cache now tag (row.ForwardRead r) = None
+noted_by_cache now tag (row.ForwardWrite r due) = Some now
+noted_by_cache now tag (row.Invalidate r) = None
+noted_by_cache now tag (row.DataShared content) = None
+noted_by_cache now tag (row.DataModified content due) = Some tag
+noted_by_cache now tag (row.UpgradeGranted due) = None
+noted_by_cache now tag row.Acknowledge = None
+noted_by_cache now tag row.PutGo = Some now
+noted_by_cache now tag row.PutDone = None
+noted_by_cache now tag (row.DataExclusive content) = Some tag
+
+-- the same of whoever takes a message
+
+-- a message that doesn't come to a cache does nothing there
 abbrev pub no_row : Logged → CacheReply
 no_row at = record { after = at; sends = []; lost = None }
 
--- the row of a body, for a block of this home, in the node's interval, with the message's tag
+abbrev pub reply_at_cache : Logged → ℕ → ℕ → ℕ → ℕ → Receiver → CacheReply
+reply_at_cache at home block now tag (receiver.Cache taken) = cache_reply at home block now tag taken
+reply_at_cache at home block now tag (receiver.Home message) = no_row at
+reply_at_cache at home block now tag (receiver.Controller k) = no_row at
+reply_at_cache at home block now tag (receiver.Clock k) = no_row at
+
+abbrev pub MeetsAtCache : Logged → ℕ → Receiver → Type 0
+MeetsAtCache at block (receiver.Cache taken) = MeetsCacheRow at block taken
+MeetsAtCache at block (receiver.Home message) = ⊥
+MeetsAtCache at block (receiver.Controller k) = ⊥
+MeetsAtCache at block (receiver.Clock k) = ⊥
+
+abbrev pub noted_at_cache : ℕ → ℕ → Receiver → Option ℕ
+noted_at_cache now tag (receiver.Cache taken) = noted_by_cache now tag taken
+noted_at_cache now tag (receiver.Home message) = None
+noted_at_cache now tag (receiver.Controller k) = None
+noted_at_cache now tag (receiver.Clock k) = None
+
+-- and of a body: what its row leaves, its row's condition, and where its row notes
 abbrev pub row_by : Logged → ℕ → ℕ → ℕ → ℕ → Body → CacheReply
-row_by at home block now tag (FwdGetS r) = forward_read at block r
-row_by at home block now tag (FwdGetM r due) = forward_write at block now r due
-row_by at home block now tag (Inv r) = invalidate at block r
-row_by at home block now tag (DataS content) = data_shared at home block tag content
-row_by at home block now tag (DataM content due) = data_modified at home block tag content due
-row_by at home block now tag (UpgOk due) = upgrade_granted at home tag due
-row_by at home block now tag InvAck = acknowledge at home
-row_by at home block now tag PutGo = put_go at home block now
-row_by at home block now tag PutDone = put_done at
-row_by at home block now tag (DataE content) = data_exclusive at home block tag content
-row_by at home block now tag GetS = no_row at
-row_by at home block now tag GetM = no_row at
-row_by at home block now tag (Unblock fixed) = no_row at
-row_by at home block now tag PutReq = no_row at
-row_by at home block now tag (PutData content) = no_row at
-row_by at home block now tag (Ready k) = no_row at
-row_by at home block now tag (Advance k) = no_row at
+row_by at home block now tag body = reply_at_cache at home block now tag (receiver_of body)
 
--- the condition of the row
 abbrev pub MeetsRow : Logged → ℕ → Body → Type 0
-MeetsRow at block (FwdGetS r) = MayForward at block
-MeetsRow at block (FwdGetM r due) = MayForward at block
-MeetsRow at block (Inv r) = Unit {0}
-MeetsRow at block (DataS content) = MayTakeCopy at block
-MeetsRow at block (DataM content due) = MayTakeOwnership at block
-MeetsRow at block (UpgOk due) = MayUpgrade at block
-MeetsRow at block InvAck = MayCount at.cache.miss block
-MeetsRow at block PutGo = MayGiveBack at block
-MeetsRow at block PutDone = MayClosePut at block
-MeetsRow at block (DataE content) = MayTakeCopy at block
-MeetsRow at block GetS = ⊥
-MeetsRow at block GetM = ⊥
-MeetsRow at block (Unblock fixed) = ⊥
-MeetsRow at block PutReq = ⊥
-MeetsRow at block (PutData content) = ⊥
-MeetsRow at block (Ready k) = ⊥
-MeetsRow at block (Advance k) = ⊥
+MeetsRow at block body = MeetsAtCache at block (receiver_of body)
 
--- the interval in which a row notes, where it does
 abbrev pub noted_in : ℕ → ℕ → Body → Option ℕ
-noted_in now tag (FwdGetM r due) = Some now
-noted_in now tag PutGo = Some now
-noted_in now tag (DataM content due) = Some tag
-noted_in now tag (DataE content) = Some tag
-noted_in now tag _ = None
+noted_in now tag body = noted_at_cache now tag (receiver_of body)

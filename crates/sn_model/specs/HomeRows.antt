@@ -5,14 +5,20 @@ use Rattle.sn_base.specs.declared.log.LogEntry.{LogEntry}
 use Rattle.sn_base.specs.declared.log.Old.TheVariants.{WasHome, WasCache}
 use Rattle.sn_msg.specs.declared.Message.{Message}
 use Rattle.sn_msg.specs.declared.Body.{Body}
-use Rattle.sn_msg.specs.declared.Body.TheVariants.{GetS, GetM, FwdGetS, FwdGetM, Inv, DataS, DataM, DataE, UpgOk, Unblock, PutReq}
-use Rattle.sn_msg.specs.declared.Body.TheVariants.{PutGo, PutData, PutDone}
+use Rattle.sn_msg.specs.declared.Body.TheVariants.{FwdGetS, FwdGetM, Inv, DataS, DataM, DataE, UpgOk, PutGo, PutDone}
 use Rattle.sn_model.specs.declared.home.Kind.{Kind}
 use Rattle.sn_model.specs.declared.home.Kind.TheVariants.{Read, Take, Move, Upgrade, Put}
 use Rattle.sn_model.specs.declared.cache.Out.{Out}
+use Rattle.sn_model.specs.declared.rows.HomeMessage.{HomeMessage}
+use Rattle.sn_model.specs.declared.rows.HomeMessage.TheVariants as asked
+use Rattle.sn_model.specs.declared.rows.HomeRow.{HomeRow}
+use Rattle.sn_model.specs.declared.rows.HomeRow.TheVariants as row
+use Rattle.sn_model.specs.declared.rows.Receiver.{Receiver}
+use Rattle.sn_model.specs.declared.rows.Receiver.TheVariants as receiver
 use Rattle.log_buffer.specs.Log.{log_with_note}
 use Rattle.sn_model.specs.Homes.{HomeEntry, Holder, Itself, OfCache, Transaction, is_owner, no_sharers}
 use Rattle.sn_model.specs.CacheRows.{send}
+use Rattle.sn_model.specs.Receivers.{receiver_of}
 
 -- an entry with its node's log
 pub record LoggedEntry : Type 0 where
@@ -134,7 +140,48 @@ grant_exclusive at block now r content = record {
   sends = send r (DataE content) ∷ [];
 }
 
--- which messages have a row
+-- the row of each message
+
+-- of a GetS, where so many others share
+abbrev pub read_row : Holder → ℕ → HomeRow
+read_row (Itself content) others = if nat_eq others 0 then row.GrantExclusive content else row.ReadAtHome content
+read_row (OfCache owner) others = row.ReadAtOwner owner
+
+-- of a GetM from r
+abbrev pub write_row : Holder → ℕ → HomeRow
+write_row (Itself content) r = row.Take content
+write_row (OfCache owner) r = if nat_eq owner r then row.Upgrade else row.MoveOwnership owner
+
+-- of what comes from r, at its block's entry
+abbrev pub home_row : HomeEntry → ℕ → HomeMessage → HomeRow
+home_row entry r asked.GetS = read_row entry.holder (count_others entry.sharers r)
+home_row entry r asked.GetM = write_row entry.holder r
+home_row entry r (asked.Unblock fixed) = row.Unblock fixed
+home_row entry r asked.PutReq = if is_owner entry.holder r then row.PutBegins else row.PutIsStale
+home_row entry r (asked.PutData content) = row.PutData content
+
+-- what a row leaves, for a block and a message from r, in the home's interval, with the message's tag
+abbrev pub home_reply : LoggedEntry → ℕ → ℕ → ℕ → ℕ → HomeRow → HomeReply
+home_reply at block now tag r (row.ReadAtHome content) = read_at_home at now r content
+home_reply at block now tag r (row.ReadAtOwner owner) = read_at_owner at now r owner
+home_reply at block now tag r (row.Take content) = take at block now r content
+home_reply at block now tag r (row.MoveOwnership owner) = move_ownership at now r owner
+home_reply at block now tag r row.Upgrade = upgrade at now r
+home_reply at block now tag r (row.Unblock fixed) = unblock at block fixed at.entry.transaction
+home_reply at block now tag r row.PutBegins = put_begins at now r
+home_reply at block now tag r row.PutIsStale = put_is_stale at r
+home_reply at block now tag r (row.PutData content) = put_data at block tag r content
+home_reply at block now tag r (row.GrantExclusive content) = grant_exclusive at block now r content
+
+-- whether it is a request, which waits while a transaction is open
+abbrev pub is_request : HomeMessage → Bool
+is_request asked.GetS = true
+is_request asked.GetM = true
+is_request (asked.Unblock fixed) = false
+is_request asked.PutReq = true
+is_request (asked.PutData content) = false
+
+-- what rows ask of the open transaction
 
 abbrev pub is_put : Kind → Bool
 is_put Put = true
@@ -150,31 +197,15 @@ abbrev pub MayEndPut : Option Transaction → ℕ → Type 0
 MayEndPut None r = ⊥
 MayEndPut (Some transaction) r = (is_put transaction.kind ≡ true) × (transaction.requester ≡ r)
 
--- whether a message from r has a row: a GetS that needn't wait doesn't come from the named owner
-abbrev pub HasRow : HomeEntry → ℕ → Body → Type 0
-HasRow entry r GetS = entry.transaction ≡ None → is_owner entry.holder r ≡ false
-HasRow entry r GetM = Unit {0}
-HasRow entry r PutReq = Unit {0}
-HasRow entry r (Unblock fixed) = MayUnblock entry.transaction r
-HasRow entry r (PutData content) = MayEndPut entry.transaction r
-HasRow entry r _ = ⊥
-
--- whether a message is a request, which waits while a transaction is open
-abbrev pub is_request : Body → Bool
-is_request GetS = true
-is_request GetM = true
-is_request PutReq = true
-is_request _ = false
+-- the condition of what comes from r: a GetS that needn't wait doesn't come from the named owner
+abbrev pub MeetsHomeRow : HomeEntry → ℕ → HomeMessage → Type 0
+MeetsHomeRow entry r asked.GetS = entry.transaction ≡ None → is_owner entry.holder r ≡ false
+MeetsHomeRow entry r asked.GetM = Unit {0}
+MeetsHomeRow entry r (asked.Unblock fixed) = MayUnblock entry.transaction r
+MeetsHomeRow entry r asked.PutReq = Unit {0}
+MeetsHomeRow entry r (asked.PutData content) = MayEndPut entry.transaction r
 
 -- the interval under which a row notes what stood, where it notes
-
-abbrev pub noted_by_read : Holder → ℕ → ℕ → Option ℕ
-noted_by_read (Itself content) others now = if nat_eq others 0 then Some now else None
-noted_by_read (OfCache owner) others now = None
-
-abbrev pub noted_by_write : Holder → ℕ → Option ℕ
-noted_by_write (Itself content) now = Some now
-noted_by_write (OfCache owner) now = None
 
 abbrev pub noted_by_end : Kind → Holder → ℕ → Option ℕ
 noted_by_end Move (OfCache owner) fixed = Some fixed
@@ -184,14 +215,45 @@ abbrev pub noted_by_unblock : Option Transaction → Holder → ℕ → Option �
 noted_by_unblock None holder fixed = None
 noted_by_unblock (Some transaction) holder fixed = noted_by_end transaction.kind holder fixed
 
+abbrev pub noted_by_home : HomeEntry → ℕ → ℕ → HomeRow → Option ℕ
+noted_by_home entry now tag (row.ReadAtHome content) = None
+noted_by_home entry now tag (row.ReadAtOwner owner) = None
+noted_by_home entry now tag (row.Take content) = Some now
+noted_by_home entry now tag (row.MoveOwnership owner) = None
+noted_by_home entry now tag row.Upgrade = None
+noted_by_home entry now tag (row.Unblock fixed) = noted_by_unblock entry.transaction entry.holder fixed
+noted_by_home entry now tag row.PutBegins = None
+noted_by_home entry now tag row.PutIsStale = None
+noted_by_home entry now tag (row.PutData content) = Some tag
+noted_by_home entry now tag (row.GrantExclusive content) = Some now
+
 -- a request that waits notes nothing
 abbrev pub unless_open : Option Transaction → Option ℕ → Option ℕ
 unless_open None interval = interval
 unless_open (Some transaction) interval = None
 
+abbrev pub noted_for : HomeEntry → ℕ → Message → HomeMessage → Option ℕ
+noted_for entry now m message =
+    if is_request message then unless_open entry.transaction (noted_by_home entry now m.tag (home_row entry m.from message))
+    else noted_by_home entry now m.tag (home_row entry m.from message)
+
+-- the same of whoever takes a message: what doesn't come to a home has no row there
+
+abbrev pub MeetsAtHome : HomeEntry → ℕ → Receiver → Type 0
+MeetsAtHome entry r (receiver.Cache taken) = ⊥
+MeetsAtHome entry r (receiver.Home message) = MeetsHomeRow entry r message
+MeetsAtHome entry r (receiver.Controller k) = ⊥
+MeetsAtHome entry r (receiver.Clock k) = ⊥
+
+abbrev pub noted_at_home : HomeEntry → ℕ → Message → Receiver → Option ℕ
+noted_at_home entry now m (receiver.Cache taken) = None
+noted_at_home entry now m (receiver.Home message) = noted_for entry now m message
+noted_at_home entry now m (receiver.Controller k) = None
+noted_at_home entry now m (receiver.Clock k) = None
+
+-- and of a body: whether it has a row, and where its row notes
+abbrev pub HasRow : HomeEntry → ℕ → Body → Type 0
+HasRow entry r body = MeetsAtHome entry r (receiver_of body)
+
 abbrev pub noting : HomeEntry → ℕ → Message → Body → Option ℕ
-noting entry now m GetS = unless_open entry.transaction (noted_by_read entry.holder (count_others entry.sharers m.from) now)
-noting entry now m GetM = unless_open entry.transaction (noted_by_write entry.holder now)
-noting entry now m (Unblock fixed) = noted_by_unblock entry.transaction entry.holder fixed
-noting entry now m (PutData content) = Some m.tag
-noting entry now m _ = None
+noting entry now m body = noted_at_home entry now m (receiver_of body)

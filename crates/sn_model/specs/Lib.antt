@@ -1,8 +1,8 @@
 pub mod Caches
 pub mod Homes
+pub mod Receivers
 pub mod CacheRows
 pub mod HomeRows
-pub mod Receivers
 pub mod Fabric
 pub mod Net
 pub mod Access

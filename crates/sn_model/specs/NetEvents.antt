@@ -8,18 +8,18 @@ use Rattle.sn_base.specs.declared.event.Answer.TheVariants.{Held, HomeBusy, Lost
 use Rattle.sn_base.specs.declared.log.LogEntry.{LogEntry}
 use Rattle.sn_msg.specs.declared.Message.{Message}
 use Rattle.sn_msg.specs.declared.Body.{Body}
-use Rattle.sn_msg.specs.declared.Body.TheVariants.{GetS, GetM, FwdGetS, FwdGetM, Inv, DataS, DataM, DataE, UpgOk, InvAck, Unblock, PutReq}
-use Rattle.sn_msg.specs.declared.Body.TheVariants.{PutGo, PutData, PutDone, Ready, Advance}
 use Rattle.log_buffer.specs.Log.{entries_from}
 use Rattle.route_plan.specs.Distances.{is_dead}
 use Rattle.sn_model.specs.declared.cache.Out.{Out}
 use Rattle.sn_model.specs.declared.net.News.{News}
 use Rattle.sn_model.specs.declared.net.News.TheVariants as told
-use Rattle.sn_model.specs.Homes.{Holder, Itself, OfCache, Transaction, is_owner}
-use Rattle.sn_model.specs.CacheRows.{Logged, CacheReply, forward_read, forward_write, invalidate, data_shared, data_modified}
-use Rattle.sn_model.specs.CacheRows.{upgrade_granted, acknowledge, put_go, put_done, data_exclusive}
-use Rattle.sn_model.specs.HomeRows.{LoggedEntry, HomeReply, count_others, read_at_home, read_at_owner, take, move_ownership, upgrade}
-use Rattle.sn_model.specs.HomeRows.{unblock, put_begins, put_is_stale, put_data, grant_exclusive}
+use Rattle.sn_model.specs.declared.rows.HomeMessage.{HomeMessage}
+use Rattle.sn_model.specs.declared.rows.Receiver.{Receiver}
+use Rattle.sn_model.specs.declared.rows.Receiver.TheVariants as receiver
+use Rattle.sn_model.specs.Homes.{Transaction}
+use Rattle.sn_model.specs.Receivers.{receiver_of}
+use Rattle.sn_model.specs.CacheRows.{Logged, CacheReply, cache_reply}
+use Rattle.sn_model.specs.HomeRows.{LoggedEntry, HomeReply, home_reply, home_row, is_request}
 use Rattle.sn_model.specs.Fabric.{Fabric, Node, Flight, FabricStep, node_at, with_node, home_of, with_home, home_node, with_net, step_refused}
 use Rattle.sn_model.specs.Fabric.{step_with_answer}
 use Rattle.sn_model.specs.Net.{net_limit, routes_of, flight_of, without_flight, net_with_flight_in, is_there, next_switch, sending}
@@ -71,21 +71,6 @@ logged_at s n = record { cache = (node_at s n).cache; log = (node_at s n).log }
 abbrev pub kept_at : Fabric → ℕ → ℕ → LoggedEntry
 kept_at s n block = record { entry = home_of s block; log = (node_at s n).log }
 
--- the home's row for a GetS
-abbrev pub get_shared : LoggedEntry → ℕ → ℕ → ℕ → Holder → HomeReply
-get_shared at block now r (Itself content) =
-    if nat_eq (count_others at.entry.sharers r) 0 then grant_exclusive at block now r content else read_at_home at now r content
-get_shared at block now r (OfCache owner) = read_at_owner at now r owner
-
--- the home's row for a GetM
-abbrev pub get_modified : LoggedEntry → ℕ → ℕ → ℕ → Holder → HomeReply
-get_modified at block now r (Itself content) = take at block now r content
-get_modified at block now r (OfCache owner) = if nat_eq owner r then upgrade at now r else move_ownership at now r owner
-
--- the home's row for a PutReq
-abbrev pub put_request : LoggedEntry → ℕ → ℕ → HomeReply
-put_request at now r = if is_owner at.entry.holder r then put_begins at now r else put_is_stale at r
-
 -- a request waits while a transaction is open on its block
 abbrev pub unless_busy : Option Transaction → HomeReply → Outcome
 unless_busy None reply = AtHome reply
@@ -95,28 +80,21 @@ unless_busy (Some transaction) reply = Busy
 abbrev pub node_after_news : Node → ℕ → Node
 node_after_news node k = record node { known = max node.known k; log = entries_from k node.log }
 
+abbrev pub outcome_at_home : LoggedEntry → Message → ℕ → HomeMessage → Outcome
+outcome_at_home at m now message =
+    if is_request message then unless_busy at.entry.transaction (home_reply at m.block now m.tag m.from (home_row at.entry m.from message))
+    else AtHome (home_reply at m.block now m.tag m.from (home_row at.entry m.from message))
+
+-- what a message comes to at who takes it
+abbrev pub outcome_by : Fabric → Message → Receiver → Outcome
+outcome_by s m (receiver.Cache taken) =
+    AtCache (cache_reply (logged_at s m.to) (home_node s m.block) m.block (node_at s m.to).now m.tag taken)
+outcome_by s m (receiver.Home message) = outcome_at_home (kept_at s m.to m.block) m (node_at s m.to).now message
+outcome_by s m (receiver.Controller k) = Noted s (told.Ready m.from k)
+outcome_by s m (receiver.Clock k) = Noted (with_node s m.to (node_after_news (node_at s m.to) k)) (told.Advance m.to k)
+
 abbrev pub outcome_of : Fabric → Message → Body → Outcome
-outcome_of s m GetS =
-    unless_busy (home_of s m.block).transaction
-    (get_shared (kept_at s m.to m.block) m.block (node_at s m.to).now m.from (home_of s m.block).holder)
-outcome_of s m GetM =
-    unless_busy (home_of s m.block).transaction
-    (get_modified (kept_at s m.to m.block) m.block (node_at s m.to).now m.from (home_of s m.block).holder)
-outcome_of s m (FwdGetS r) = AtCache (forward_read (logged_at s m.to) m.block r)
-outcome_of s m (FwdGetM r due) = AtCache (forward_write (logged_at s m.to) m.block (node_at s m.to).now r due)
-outcome_of s m (Inv r) = AtCache (invalidate (logged_at s m.to) m.block r)
-outcome_of s m (DataS content) = AtCache (data_shared (logged_at s m.to) (home_node s m.block) m.block m.tag content)
-outcome_of s m (DataM content due) = AtCache (data_modified (logged_at s m.to) (home_node s m.block) m.block m.tag content due)
-outcome_of s m (DataE content) = AtCache (data_exclusive (logged_at s m.to) (home_node s m.block) m.block m.tag content)
-outcome_of s m (UpgOk due) = AtCache (upgrade_granted (logged_at s m.to) (home_node s m.block) m.tag due)
-outcome_of s m InvAck = AtCache (acknowledge (logged_at s m.to) (home_node s m.block))
-outcome_of s m (Unblock fixed) = AtHome (unblock (kept_at s m.to m.block) m.block fixed (home_of s m.block).transaction)
-outcome_of s m PutReq = unless_busy (home_of s m.block).transaction (put_request (kept_at s m.to m.block) (node_at s m.to).now m.from)
-outcome_of s m PutGo = AtCache (put_go (logged_at s m.to) (home_node s m.block) m.block (node_at s m.to).now)
-outcome_of s m (PutData content) = AtHome (put_data (kept_at s m.to m.block) m.block m.tag m.from content)
-outcome_of s m PutDone = AtCache (put_done (logged_at s m.to))
-outcome_of s m (Ready k) = Noted s (told.Ready m.from k)
-outcome_of s m (Advance k) = Noted (with_node s m.to (node_after_news (node_at s m.to) k)) (told.Advance m.to k)
+outcome_of s m body = outcome_by s m (receiver_of body)
 
 abbrev pub node_after : Node → CacheReply → Node
 node_after node reply = record node { cache = reply.after.cache; log = reply.after.log }

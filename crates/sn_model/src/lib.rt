@@ -5,7 +5,7 @@
 //! trace, the cut that a checkpoint stands for and what a recovery restores. They are total: on a state that can't
 //! arise they say something harmless, and the theorems of the layers above show that it doesn't arise.
 //!
-//! The code here is only the plain types that the definitions and the controllers share.
+//! The code here is only the plain types that the definitions and the controllers share, and who takes a message.
 #![tactic(auto)]
 
 mod cache;
@@ -13,9 +13,11 @@ mod home;
 mod laws;
 mod look;
 mod net;
+mod rows;
 
 pub use cache::{LineState, Need, Out};
 pub use home::{Kind, Owner};
 pub use laws::refusal_changes_nothing;
 pub use look::Look;
 pub use net::{News, Sent};
+pub use rows::{CacheRow, HomeMessage, HomeRow, Receiver, receiver_of};

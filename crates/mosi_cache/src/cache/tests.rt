@@ -15,11 +15,11 @@ mod restore;
 mod rows;
 mod schedules;
 
-use super::{Cache, noting};
+use super::{Cache, noted_by};
 use crate::step::{AccessProbe, CacheStep};
 use log_buffer::LogBuffer;
 use sn_base::{Answer, Block, BlockNo, Config, Interval, Memory, NodeId, Old, Width, Write};
-use sn_model::{LineState, Look, Need, Out};
+use sn_model::{LineState, Look, Need, Out, Receiver, receiver_of};
 use sn_msg::{Body, Message};
 use std::alloc::Global;
 use std::process::Abort;
@@ -269,6 +269,16 @@ fn is_last(log: &LogBuffer, block: BlockNo, interval: Interval) -> bool
     match interval.checked_add(1) {
         Some(next) => log.old_at(false, block, next).is_none(),
         None => false,
+    }
+}
+
+/// The interval in which the message's row notes what stood before it, where it does.
+fn noting(message: &Message, now: Interval) -> Option<Interval>
+    ensures { result ≡ noted_in now message.now.tag message.now.body }
+{
+    match receiver_of(&message.body) {
+        Receiver::Cache(row) => noted_by(&row, now, message.tag),
+        Receiver::Home(_) | Receiver::Controller(_) | Receiver::Clock(_) => None,
     }
 }
 

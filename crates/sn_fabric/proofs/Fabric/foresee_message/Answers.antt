@@ -1,7 +1,8 @@
-use Rattle.std.proofs.Common.{◌≡◌, ◌<◌, ◌≤◌, length, ◌∙◌, subst, sym, arith}
+use Rattle.std.proofs.Common.{◌≡◌, ◌<◌, ◌≤◌, length, ◌∙◌, ap, subst, sym, arith}
 use Rattle.sn_base.specs.declared.event.Answer.TheVariants.{Held}
 use Rattle.sn_model.specs.Fabric.{node_at}
 use Rattle.sn_model.specs.NetEvents.{step_of_delivery}
+use Rattle.sn_model.specs.Receivers.{is_cache, is_home}
 use Rattle.sn_fabric.specs.Fabric.{FabricData}
 use Rattle.sn_fabric.proofs.Given.{inside}
 use Rattle.sn_fabric.proofs.Delivered.{held-answer, not-held, answer-given, report-given, advance-given}
@@ -30,6 +31,12 @@ returns-then-held c =
     }) c.self.invariant.0 c.args.message.now
     (rw (← c.self.view_is) at c.requires) c.from.result c.index-unit.result.now
     (c.from.ensures ∙ c.number.ensures.same) c.index-unit.ensures (sym c.held.ensures ∙ c.if-held.true))
+
+pub foresee_at_cache-requires-clause-receiver : goal.foresee_at_cache-requires-clause-receiver
+foresee_at_cache-requires-clause-receiver c = ap is_cache (sym c.in-Cache.ensures)
+
+pub foresee_at_home-requires-clause-receiver : goal.foresee_at_home-requires-clause-receiver
+foresee_at_home-requires-clause-receiver c = ap is_home (sym c.in-Home.ensures)
 
 pub foresee_at_cache-requires-clause-reached : goal.foresee_at_cache-requires-clause-reached
 foresee_at_cache-requires-clause-reached c =
