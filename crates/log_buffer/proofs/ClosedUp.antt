@@ -7,7 +7,8 @@ use Rattle.std.proofs.lemmas.Bool.Decides.{nat_tests}
 use Rattle.log_buffer.specs.Log.{LogEntry, is_home_side, is_about, entries_from}
 use Rattle.log_buffer.specs.Index.{Stored, Newest, entries_of, last_place, place_seen, newest_of, place_before, place_now, IsLinked}
 use Rattle.log_buffer.specs.Index.{HasLast, IsIndexed}
-use Rattle.log_buffer.proofs.LastPlace.{last_place-push, about_is}
+use Rattle.sn_base.proofs.LastPlace.{last_place-push}
+use Rattle.log_buffer.proofs.LastPlace.{about_is}
 use Rattle.log_buffer.proofs.Indexed.{Puts, IsLinked-push, entries_of-push}
 
 -- where the table is renewed as far as some entries: for a side and block that has none of them it is as it was, and else as it will be

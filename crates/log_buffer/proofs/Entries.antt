@@ -1,8 +1,9 @@
 -- Which entry a growing log gives for a checkpoint.
 use Rattle.std.proofs.Common.{◌≡◌, ℕ, suc, ◌+◌, ◌<◌, ◌≤◌, Bool, true, false, not, ◌&&◌, ◌||◌, max, cond, List, [], ◌∷◌, ◌++◌, Option, Some}
-use Rattle.std.proofs.Common.{None, IfSome, length, drop, zero, refl, arith, length-append}
+use Rattle.std.proofs.Common.{None, IfSome, length, take, drop, min, zero, refl, arith, length-append}
 use Rattle.std.specs.Prelude.{nat_le, nat_eq, if◌then◌else◌}
 use Rattle.std.specs.List.{All}
+use Rattle.std.proofs.lemmas.List.{length-take, get_or-take}
 use Rattle.std.proofs.lemmas.List.Elements.{All-head, All-tail, All-nil, All-cons}
 use Rattle.std.proofs.lemmas.List.Kept.{AllPairs-filter}
 use Rattle.std.proofs.lemmas.List.Quantifiers.{all_pairs_push}
@@ -69,6 +70,11 @@ pub IsGrowing-drop : (n : ℕ) (es : List LogEntry) → IsGrowing es → IsGrowi
 IsGrowing-drop zero es h = h
 IsGrowing-drop (suc n) [] h = h
 IsGrowing-drop (suc n) (e ∷ es) h = IsGrowing-drop n es (IsGrowing-tail e es h)
+
+pub IsGrowing-take : (n : ℕ) (es : List LogEntry) → IsGrowing es → IsGrowing (take n es)
+IsGrowing-take n es h i j d l m =
+    let k : j < min n (length es) = rw (← length-take n es) m in
+    rw (get_or-take n es i d (omega arith), get_or-take n es j d (omega arith)) (h i j d l (omega arith))
 
 -- an entry that the log has no entry of, and that isn't below the others of its side and block, may stand last
 about_self : (e : LogEntry) → is_about (is_home_side e.old) e.block e ≡ true

@@ -6,7 +6,7 @@ use Rattle.std.proofs.lemmas.List.{map_push, length-map, length_push, get_or_app
 use Rattle.std.proofs.lemmas.Bool.Decides.{nat_tests}
 use Rattle.log_buffer.specs.Log.{LogEntry, is_home_side, is_about}
 use Rattle.log_buffer.specs.Index.{Stored, Newest, entries_of, last_place, newest_of, place_before, are_same, IsLinked, HasLast, IsIndexed}
-use Rattle.log_buffer.proofs.LastPlace.{last_place-push}
+use Rattle.sn_base.proofs.LastPlace.{last_place-push}
 
 -- the table has another place for the side and block of an entry
 abbrev pub Puts : Newest → Newest → LogEntry → Option ℕ → Type 0

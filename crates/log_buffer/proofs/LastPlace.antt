@@ -23,17 +23,6 @@ pub about_is : (s : Bool) (b : ℕ) (e : LogEntry) → is_about s b e ≡ true �
 about_is true b e h = grind (arith, nat_tests)
 about_is false b e h = grind (arith, nat_tests)
 
-push_step : (c d : Bool) (n : ℕ) (o : Option ℕ) → place_seen c (if d then Some n else o) ≡ (if d then Some (suc n) else place_seen c o)
-push_step c true n o = grind arith
-push_step c false n o = refl
-
-pub last_place-push : (es : List LogEntry) (e : LogEntry) (s : Bool) (b : ℕ) →
-    last_place (es ++ e ∷ []) s b ≡ (if is_about s b e then Some (length es) else last_place es s b)
-last_place-push [] e s b = refl
-last_place-push (f ∷ es) e s b =
-    ap (place_seen (is_about s b f)) (last_place-push es e s b)
-    ∙ push_step (is_about s b f) (is_about s b e) (length es) (last_place es s b)
-
 place_step : (s : Bool) (b : ℕ) (e : LogEntry) (es : List LogEntry) (o : Option ℕ) → IsPlaceOf es s b o →
     IsPlaceOf (e ∷ es) s b (place_seen (is_about s b e) o)
 place_step s b e es None h =

@@ -1,27 +1,14 @@
 -- Where the entries of one side and block stand in a log: each entry has the place of the one before it, and a table that of the last.
-use Rattle.std.specs.Prelude.{◌≡◌, ℕ, ◌+◌, ◌<◌, ◌≤◌, ◌^◌, Bool, ◌&&◌, not, nat_eq, if◌then◌else◌, List, [], ◌∷◌, length, map, take}
-use Rattle.std.specs.Prelude.{slice_index_or, Option, Some, None, is_none}
-use Rattle.log_buffer.specs.Log.{LogEntry, is_home_side, is_about, IsLog}
+use Rattle.std.specs.Prelude.{◌≡◌, ℕ, ◌<◌, ◌≤◌, ◌^◌, Bool, ◌&&◌, not, nat_eq, if◌then◌else◌, List, length, map}
+use Rattle.std.specs.Prelude.{slice_index_or, Option, None, is_none}
+pub use Rattle.sn_base.specs.Entries.{place_seen, last_place, place_before}
+use Rattle.log_buffer.specs.Log.{LogEntry, is_home_side, IsLog}
 pub use Rattle.log_buffer.specs.declared.places.Stored.{Stored}
 pub use Rattle.log_buffer.specs.declared.places.Newest.{Newest}
 
 -- the entries, without the places that stand in them
 abbrev pub entries_of : List Stored → List LogEntry
 entries_of stored = map (λ x. x.entry) stored
-
--- a place of the rest of a list, seen from its first entry; where the rest has none, the first entry's own if that is meant
-abbrev pub place_seen : Bool → Option ℕ → Option ℕ
-place_seen first None = if first then Some 0 else None
-place_seen first (Some place) = Some (place + 1)
-
--- the place of the last entry of this side and block
-abbrev pub last_place : List LogEntry → Bool → ℕ → Option ℕ
-last_place [] home_side block = None
-last_place (e ∷ es) home_side block = place_seen (is_about home_side block e) (last_place es home_side block)
-
--- the place of the last entry before this place that is of the side and block of e
-abbrev pub place_before : List LogEntry → ℕ → LogEntry → Option ℕ
-place_before es place e = last_place (take place es) (is_home_side e.old) e.block
 
 -- what the table has for this side and block
 abbrev pub newest_of : Newest → Bool → ℕ → Option ℕ

@@ -1,31 +1,16 @@
 -- A log: its entries, oldest first, and what they say of the start of an interval.
-use Rattle.std.specs.Prelude.{◌≡◌, ℕ, ◌+◌, ◌<◌, ◌≤◌, Bool, true, false, not, ◌&&◌, ◌||◌, nat_eq, nat_le, max, if◌then◌else◌, List, [], ◌∷◌}
+use Rattle.std.specs.Prelude.{◌≡◌, ℕ, ◌+◌, ◌<◌, ◌≤◌, Bool, true, false, ◌&&◌, ◌||◌, nat_eq, nat_le, max, if◌then◌else◌, List, [], ◌∷◌}
 use Rattle.std.specs.Prelude.{◌++◌, length, Option, Some, None}
 use Rattle.std.specs.List.{filter, AllPairs}
 use Rattle.std.specs.Option.{option_map}
 pub use Rattle.sn_base.specs.declared.log.LogEntry.{LogEntry}
 pub use Rattle.sn_base.specs.declared.log.Old.{Old}
-use Rattle.sn_base.specs.declared.log.Old.TheVariants.{NotOwned, Owned, WasHome, WasCache}
+pub use Rattle.sn_base.specs.Entries.{is_home_side, is_of_side, is_about}
 
 -- the entries of a log, oldest first, and how many it may hold
 pub record LogData : Type 0 where
   pub entries : List LogEntry
   pub limit : ℕ
-
--- whether an old content is of the home's side, or else of the cache's
-abbrev pub is_home_side : Old → Bool
-is_home_side NotOwned = false
-is_home_side (Owned content) = false
-is_home_side (WasHome content) = true
-is_home_side (WasCache node) = true
-
--- whether an old content is of the side that is asked for: the home's (true) or the cache's (false)
-abbrev pub is_of_side : Bool → Old → Bool
-is_of_side home_side old = if home_side then is_home_side old else not (is_home_side old)
-
--- whether an entry is of this side and block
-abbrev pub is_about : Bool → ℕ → LogEntry → Bool
-is_about home_side block e = is_of_side home_side e.old && nat_eq e.block block
 
 -- of an entry and perhaps another, the one with the lesser interval
 abbrev pub earlier : LogEntry → Option LogEntry → LogEntry

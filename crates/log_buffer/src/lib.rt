@@ -15,9 +15,9 @@ ghost use Rattle.log_buffer.specs.Log.{LogData, IsLog, is_home_side, old_at, has
 mod places;
 mod renewal;
 
-pub use places::is_home_side;
 use places::{Newest, Stored};
 use renewal::{close_up, forget};
+pub use sn_base::is_home_side;
 use sn_base::{BlockNo, Entries, Interval, LogEntry, Memory, Old};
 use std::alloc::Global;
 use std::marker::Model;
@@ -146,5 +146,9 @@ impl Entries for LogBuffer {
 
     fn entry(&self, place: usize) -> &LogEntry {
         &self.stored[place].entry
+    }
+
+    fn older(&self, place: usize) -> Option<usize> {
+        self.stored[place].older.map(usize::from)
     }
 }

@@ -1,9 +1,8 @@
 //! Where entries stand: in each stored entry the place of the one before it of its side and block, and beside the list, for
 //! each side and block, the place of the last.
 ghost use Rattle.std.specs.Prelude.{◌≡◌, ℕ, ◌<◌, Bool, None, if◌then◌else◌, length, replicate, IfOk};
-ghost use Rattle.log_buffer.specs.Log.{is_home_side};
 
-use sn_base::{BLOCKS, BlockNo, LogEntry, Memory, Old};
+use sn_base::{BLOCKS, BlockNo, LogEntry, Memory, is_home_side};
 use std::alloc::Global;
 
 /// An entry in its list, and the place of the next older entry of its side and block.
@@ -20,16 +19,6 @@ pub struct Newest {
     cache: Vec<Option<u16>>,
     ghost home_blocks: { length home.items ≡ 65536 },
     ghost cache_blocks: { length cache.items ≡ 65536 },
-}
-
-/// Whether an entry with this old content is of the home's side, and not of the cache's.
-pub fn is_home_side(old: &Old) -> bool
-    ensures { result ≡ is_home_side old.now }
-{
-    match old {
-        Old::NotOwned | Old::Owned(_) => false,
-        Old::WasHome(_) | Old::WasCache(_) => true,
-    }
 }
 
 fn nowhere(alloc: Global) -> Result<Vec<Option<u16>>, Memory>

@@ -3,8 +3,8 @@ ghost use Rattle.std.specs.Prelude.{◌≡◌, ◌<◌, ◌≤◌, ◌^◌, [], 
 ghost use Rattle.log_buffer.specs.Log.{entries_from};
 ghost use Rattle.log_buffer.specs.Index.{entries_of, HasLast, IsIndexed};
 
-use crate::places::{Newest, Stored, is_home_side};
-use sn_base::Interval;
+use crate::places::{Newest, Stored};
+use sn_base::{Interval, is_home_side};
 
 /// Takes the entries' places out of the table.
 pub fn forget(stored: &[Stored], newest: &mut Newest)

@@ -1,5 +1,5 @@
 -- Which blocks a log changes, entry by entry.
-use Rattle.std.proofs.Common.{◌≡◌, ℕ, zero, suc, ◌+◌, ◌-◌, ◌^◌, ◌<◌, ◌≤◌, Bool, true, false, ◌&&◌, ◌||◌, cond, min, List, [], ◌∷◌, ◌++◌}
+use Rattle.std.proofs.Common.{◌≡◌, ℕ, suc, ◌+◌, ◌-◌, ◌^◌, ◌<◌, ◌≤◌, Bool, true, false, ◌&&◌, ◌||◌, cond, min, List, [], ◌∷◌, ◌++◌}
 use Rattle.std.proofs.Common.{Option, Some, None, length, get_or, take, drop, refl, sym, ap, ◌∙◌, subst, drop-cons, arith}
 use Rattle.std.specs.Prelude.{nat_le, slice_get, unwrap_or}
 use Rattle.std.specs.Option.{option_map}
@@ -103,38 +103,6 @@ count-more es i k c e t l h q r =
     more_step t (length (entries_from k (take (i + 1) es))) (length (entries_from k (take i es))) c (2 ^ 32 - 1)
     (f ∙ ap (λ (x : LogEntry). length (entries_from k (take i es)) + cond (nat_le k x.interval) 1 0) g
     ∙ ap (λ (u : Bool). length (entries_from k (take i es)) + cond u 1 0) q) r
-
-or_true : (p q : Bool) → q ≡ true → (p || q) ≡ true
-or_true p q h = grind arith
-
-or_split : (p q r : Bool) → (p || q) ≡ true → (q ≡ true → r ≡ true) → (p || r) ≡ true
-or_split p q r h i = grind arith
-
--- what the first entries change, more of them change too
-pub changed-within : (xs : List LogEntry) (i n : ℕ) (s : Bool) (b k : ℕ) → i ≤ n → is_changed (take i xs) s b k ≡ true →
-    is_changed (take n xs) s b k ≡ true
-changed-within xs zero n s b k l h = absurd (grind arith)
-changed-within [] (suc i) n s b k l h = absurd (grind arith)
-changed-within (x ∷ xs) (suc i) zero s b k l h = absurd (omega arith)
-changed-within (x ∷ xs) (suc i) (suc n) s b k l h =
-    or_split (is_about s b x && nat_le k x.interval) (is_changed (take i xs) s b k) (is_changed (take n xs) s b k) h
-    (λ t. changed-within xs i n s b k (omega arith) t)
-
--- an entry of the side and block, not below the checkpoint, changes the block
-pub changed-found : (es : List LogEntry) (i n : ℕ) (e : LogEntry) (s : Bool) (b k : ℕ) → i < n → n ≤ length es → slice_get es i ≡ Some e →
-    is_about s b e ≡ true → k ≤ e.interval →
-    is_changed (take n es) s b k ≡ true
-changed-found es i n e s b k l m h a r =
-    let t : nat_le k e.interval ≡ true = grind (arith, nat_tests) in
-    changed-within es (i + 1) n s b k (omega arith)
-    (changed-more es i e s b k (omega arith) h
-    ∙ or_true (is_changed (take i es) s b k) (is_about s b e && nat_le k e.interval) (grind arith))
-
--- an entry of another kind changes nothing of the block
-pub changed-passed : (es : List LogEntry) (i : ℕ) (e : LogEntry) (s : Bool) (b k : ℕ) → i < length es → slice_get es i ≡ Some e →
-    (is_about s b e && nat_le k e.interval) ≡ false →
-    is_changed (take i es) s b k ≡ false → is_changed (take (i + 1) es) s b k ≡ false
-changed-passed es i e s b k l h n f = let m = changed-more es i e s b k l h in grind arith
 
 some_step : (c t : Bool) (e : LogEntry) (o p : Option LogEntry) (x y : Old) → (c || t) ≡ true →
     (t ≡ true → unwrap_or (option_map (λ (f : LogEntry). f.old) o) x ≡ unwrap_or (option_map (λ (f : LogEntry). f.old) o) y) →

@@ -11,14 +11,13 @@
 
 ghost use Rattle.std.specs.Prelude.{◌≡◌, ℕ, ◌+◌, ◌-◌, ◌<◌, ◌≤◌, ◌^◌, Bool, true, false, min, length, take, slice_get, Some};
 ghost use Rattle.std.specs.Prelude.{not, slice_index_or};
-ghost use Rattle.log_buffer.specs.Log.{IsGrowing, entries_from, is_home_side, is_about};
+ghost use Rattle.log_buffer.specs.Log.{IsGrowing, entries_from, is_home_side};
 ghost use Rattle.rollback.specs.Unwound.{LogEntry, Old, content_unwound, content_left, all_forgotten, is_changed};
 
 #[cfg(test)]
 mod tests;
 
-use log_buffer::is_home_side;
-use sn_base::{BlockNo, Entries, Interval, LogEntry, Old};
+use sn_base::{BlockNo, Entries, Interval, Old};
 
 /// What a log is unwound into: a cache, or a home.
 ///
@@ -111,33 +110,24 @@ fn put_back_oldest<E: Entries, T: Restore>(log: &E, k: Interval, target: &mut T)
 {
     'places: for place in 0..log.count() {
         let entry = log.entry(place);
-        if entry.interval >= k && is_oldest(log, k, place, entry) {
+        if entry.interval >= k && is_oldest(log, k, place) {
             target.put_back(entry.block, &entry.old);
         }
     }
 }
 
-// Whether none of the entries before a place is of the entry's side and block and of an interval of at least k.
-fn is_oldest<E: Entries>(log: &E, k: Interval, place: usize, entry: &LogEntry) -> bool
-    requires { place ≤ length (E.entries log.now) }
-    ensures { result ≡ not (is_changed (take place (E.entries log.now)) (is_home_side entry.now.old) entry.now.block k) }
+// Whether none of the entries before a place is of the side and block of the one there and of an interval of at least k. As
+// the intervals grow, the last of them tells.
+fn is_oldest<E: Entries>(log: &E, k: Interval, place: usize) -> bool
+    requires place { place < length (E.entries log.now) }
+    requires growing { IsGrowing (E.entries log.now) }
+    ensures { (e : LogEntry) → slice_get (E.entries log.now) place ≡ Some e →
+        result ≡ not (is_changed (take place (E.entries log.now)) (is_home_side e.old) e.block k) }
 {
-    let home_side = is_home_side(&entry.old);
-    'places: for before in 0..place {
-        let other = log.entry(before);
-        if is_about(other, home_side, entry.block) && other.interval >= k {
-            return false;
-        }
+    match log.older(place) {
+        Some(before) => log.entry(before).interval < k,
+        None => true,
     }
-    true
-}
-
-fn is_about(entry: &LogEntry, home_side: bool, block: BlockNo) -> bool
-    ensures { result ≡ is_about home_side block entry.now }
-{
-    let home_entry = is_home_side(&entry.old);
-    let same_side = if home_side { home_entry } else { !home_entry };
-    same_side && entry.block == block
 }
 
 fn count_from<E: Entries>(log: &E, k: Interval) -> u32

@@ -1,4 +1,4 @@
-//! A log unwound into a cache with room for two blocks.
+//! A log unwound into a cache with room for two blocks, and which entry of a log leads to which.
 ghost use Rattle.std.specs.Prelude.{◌≡◌, ◌≢◌, ℕ, ◌⊎◌, nat_eq, if◌then◌else◌, false, refl};
 ghost use Rattle.std.proofs.Common.{◌∙◌, inl, inr};
 ghost use Rattle.rollback.specs.Unwound.{Old};
@@ -6,7 +6,7 @@ ghost use Rattle.sn_base.specs.declared.log.Old.TheVariants.{NotOwned};
 
 use crate::{Restore, unwind};
 use log_buffer::{LogBuffer, is_home_side};
-use sn_base::{Block, BlockNo, Old};
+use sn_base::{Block, BlockNo, Entries, LogEntry, Old};
 use std::test::Fail;
 
 // A cache with room for two blocks, and the node that it belongs to.
@@ -99,5 +99,39 @@ fn what_was_let_go_makes_room_for_what_is_put_back(rt: HostRuntime) -> Result<()
     assert_eq!(rt; pair.held(w), Old::NotOwned);
     assert_eq!(rt; pair.held(x), Old::Owned(Block::zero()));
     assert_eq!(rt; pair.held(z), Old::Owned(Block::zero()));
+    Ok(())
+}
+
+// A log that keeps to itself where the entry before another stands.
+#[derive(Drop)]
+struct Listed(LogBuffer);
+
+impl Entries for Listed {
+    ghost use Rattle.log_buffer.specs.Log.{LogData};
+
+    ghost entries = { λ l. l.0.entries };
+
+    fn count(&self) -> usize {
+        self.0.count()
+    }
+
+    fn entry(&self, place: usize) -> &LogEntry {
+        self.0.entry(place)
+    }
+}
+
+fn third_leads_to_first<E: Entries>(log: &E) -> bool {
+    log.count() == 3 && log.older(1).is_none() && log.older(2) == Some(0)
+}
+
+#[test]
+fn an_entry_leads_to_the_one_before_it(rt: HostRuntime) -> Result<(), Fail> {
+    let (w, x) = (BlockNo::new(1), BlockNo::new(2));
+    let mut log = LogBuffer::new(rt.alloc(), 4)?;
+    log.note(0, w, Old::NotOwned);
+    log.note(1, x, Old::NotOwned);
+    log.note(2, w, Old::Owned(Block::zero()));
+    assert!(rt; third_leads_to_first(&log));
+    assert!(rt; third_leads_to_first(&Listed(log)));
     Ok(())
 }

@@ -1,3 +1,4 @@
 pub mod Outside
 pub mod Bytes
 pub mod Given
+pub mod LastPlace

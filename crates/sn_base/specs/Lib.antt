@@ -4,3 +4,4 @@ pub mod Rules
 pub mod Blocks
 pub mod Image
 pub mod Events
+pub mod Entries

@@ -26,7 +26,7 @@ pub use copying::copy_of;
 pub use event::{Answer, Event, Undo};
 pub use image::{Image, Segment};
 pub use limits::{BLOCK_SIZE, BLOCKS, CHECKPOINTS, EVENTS, MESSAGES, RAM_END, RAM_SIZE, RAM_START};
-pub use log::{Entries, LogEntry, Old};
+pub use log::{Entries, LogEntry, Old, is_home_side};
 pub use memory::Memory;
 pub use node::{NodeId, NodeSet};
 pub use report::RunReport;

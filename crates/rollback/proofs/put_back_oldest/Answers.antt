@@ -16,7 +16,7 @@ put_back-requires g c =
     let first = g.T.Restore.holds c.args.target.now in
     let l : c.places.place < length es = omega (arith, c.count-place-end.ensures) in
     let o : is_changed (take c.places.place es) (is_home_side c.entry-entry.result.now.old) c.entry-entry.result.now.block c.args.k
-    ≡ false = was_false _ _ c.is_oldest.ensures c.if-is_oldest.true in
+    ≡ false = was_false _ _ (c.is_oldest.ensures c.entry-entry.result.now c.entry-entry.ensures) c.if-is_oldest.true in
     let a = c.places.invariant.room first
     (c.requires.fits c.places.place c.entry-entry.result.now l
     (rw
@@ -39,7 +39,7 @@ places-preserved g c =
         held =
             λ b. back_more es c.places.place c.args.k e s b first now
             (g.T.Restore.holds w.put_back.new.self) l c.entry-entry.ensures c.requires.growing w.if-entry-k.true
-            (was_false _ _ w.is_oldest.ensures w.if-is_oldest.true) (c.places.invariant.held b) (w.put_back.ensures.held b);
+            (was_false _ _ (w.is_oldest.ensures e c.entry-entry.ensures) w.if-is_oldest.true) (c.places.invariant.held b) (w.put_back.ensures.held b);
         room = λ map h. w.put_back.ensures.room map (c.places.invariant.room map h);
         stays =
             g.met.T.Restore.stays_trans c.args.target.now c.places.target w.put_back.new.self c.places.invariant.stays w.put_back.ensures.stays;
@@ -47,7 +47,7 @@ places-preserved g c =
       | else-entry-k w ↦ rw w.target-is (record {
         held = λ b. back_over es c.places.place c.args.k e s b first now l c.entry-entry.ensures
             (elim w.else-entry-k.branch [
-              | else-entry-k-via-then-entry-k+else-is_oldest v ↦ λ t. was_true _ _ v.is_oldest.ensures v.if-is_oldest.false
+              | else-entry-k-via-then-entry-k+else-is_oldest v ↦ λ t. was_true _ _ (v.is_oldest.ensures e c.entry-entry.ensures) v.if-is_oldest.false
               | else-entry-k-via-else-entry-k v ↦ λ t. absurd (let h = v.if-entry-k.false in grind (arith, nat_tests))
             ])
             (c.places.invariant.held b);
