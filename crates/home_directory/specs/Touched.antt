@@ -1,24 +1,9 @@
--- The places of a home that were touched since its last recovery: a mark for each place, and the list of the marked ones.
-use Rattle.std.specs.Prelude.{◌≡◌, ℕ, ◌<◌, Bool, true, false, ◌||◌, nat_eq, List, [], ◌∷◌, length, slice_index_or, count_by}
-use Rattle.std.specs.List.{All}
+-- The entries of a home, of which those that weren't touched since its last recovery are as that left them.
+use Rattle.std.specs.Prelude.{◌≡◌, ℕ, Bool, false, List, length, slice_index_or}
+use Rattle.touched_places.specs.Touched.{is_marked}
 use Rattle.sn_model.specs.Homes.{HomeEntry}
 use Rattle.sn_model.specs.Fabric.{no_entry}
 use Rattle.home_directory.specs.Restored.{entry_without_sharers}
-
--- whether a place is marked; a look-up past the end finds no mark
-abbrev pub is_marked : List Bool → ℕ → Bool
-is_marked marks place = slice_index_or marks place false
-
--- whether a list of places has this one
-abbrev pub is_listed : List ℕ → ℕ → Bool
-is_listed [] place = false
-is_listed (first ∷ places) place = nat_eq first place || is_listed places place
-
--- the list has the marked places, each of them once: it has each, and no more than there are marks
-pub record IsListOf (marks : List Bool) (places : List ℕ) : Type 0 where
-  pub inside : All (λ place. place < length marks) places
-  pub all : (place : ℕ) → is_marked marks place ≡ true → is_listed places place ≡ true
-  pub once : length places ≡ count_by (λ mark. mark) marks
 
 -- an entry is as a recovery leaves it
 abbrev pub IsCleared : HomeEntry → Type 0

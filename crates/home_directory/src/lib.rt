@@ -25,7 +25,6 @@ mod start;
 mod step;
 #[cfg(test)]
 mod tests;
-mod touched;
 
 use entry::DirectoryEntry;
 pub use entry::Transaction;
@@ -41,7 +40,7 @@ use sn_msg::Message;
 use std::alloc::Global;
 use std::marker::Model;
 pub use step::HomeStep;
-use touched::Touched;
+use touched_places::Touched;
 
 /// The home of a node. Contracts see the node, the number of nodes, and the entries of its blocks in order. The open
 /// transactions stand in a list too, which has room for one of each block. An entry that isn't touched is as a recovery leaves it.

@@ -7,10 +7,10 @@ ghost use Rattle.home_directory.specs.Restored.{stays-same, stays-along, can-par
 
 use crate::Home;
 use crate::entry::DirectoryEntry;
-use crate::touched::Touched;
 use rollback::Restore;
 use sn_base::{Block, BlockNo, NodeId, NodeSet, Old};
 use sn_model::Owner;
+use touched_places::Touched;
 
 /// Nobody shares a block, and nothing is open: so it is but for the touched places already.
 fn clear_entries(entries: &mut Vec<DirectoryEntry>, touched: &Touched)

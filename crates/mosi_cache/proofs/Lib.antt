@@ -11,6 +11,7 @@ pub mod FullLogs
 pub mod Logs
 pub mod Within
 pub mod Unshared
+pub mod Settled
 pub mod Held
 pub mod Restored
 pub mod Two

@@ -1,11 +1,13 @@
--- Which line each block has once the Shared ones are freed and the rest are Modified.
-use Rattle.std.proofs.Common.{◌≡◌, ℕ, ◌+◌, ◌*◌, ◌<◌, true, List, [], length, get_or, set, Option, Some, None, ◌⊎◌, inl, inr, refl, sym, ap}
-use Rattle.std.proofs.Common.{◌∙◌, subst, arith, ⊎_elim}
-use Rattle.std.specs.Prelude.{map}
+-- The frames while a recovery begins: one frame more is settled, and what all of them leave.
+use Rattle.std.proofs.Common.{◌≡◌, ◌≢◌, ℕ, ◌+◌, ◌*◌, ◌<◌, ◌≤◌, Bool, true, false, List, [], ◌∷◌, length, get_or, set, drop, Option, Some, None, ◌⊎◌}
+use Rattle.std.proofs.Common.{inl, inr, refl, sym, ap, ◌∙◌, subst, arith, ⊎_elim, length-set}
+use Rattle.std.specs.Prelude.{map, nat_eq, replicate}
 use Rattle.std.proofs.Math.ListN.{get_or-map, length-map}
-use Rattle.std.proofs.lemmas.Bool.{cases_eq}
-use Rattle.std.proofs.lemmas.List.{get_or-set_same, get_or-set_other, ext_get_or}
+use Rattle.std.proofs.lemmas.Bool.Decides.{nat_tests}
+use Rattle.std.proofs.lemmas.List.{get_or-set_same, get_or-set_other, get_or-replicate, length-replicate, drop_more, drop_all, ext_get_or}
 use Rattle.std.proofs.lemmas.Option.{none-some}
+use Rattle.touched_places.specs.Touched.{is_marked, is_listed, IsListOf}
+use Rattle.touched_places.proofs.Listing.{unlisted, unmarked-first}
 use Rattle.cache_array.specs.Slots.{FrameSlots, AreSlots, block_at, frame_of}
 use Rattle.cache_array.proofs.Slots.{found-at, at-inside, frame-found, frame-none, none-at}
 use Rattle.sn_model.specs.declared.cache.LineState.{LineState}
@@ -13,7 +15,7 @@ use Rattle.sn_model.specs.declared.cache.LineState.TheVariants.{Absent, Shared, 
 use Rattle.sn_model.specs.Caches.{no_line, is_present, block_count}
 use Rattle.mosi_cache.specs.Frames.{FrameLine, kept_at, line_kept, line_in_frame, line_in, lines_of, AreLines}
 use Rattle.mosi_cache.specs.Restored.{begun_line}
-use Rattle.mosi_cache.specs.Unshared.{slot_unless_shared, AreUnshared, as_modified}
+use Rattle.mosi_cache.specs.Unshared.{slot_unless_shared, as_modified, AreUnshared, AreSettled}
 use Rattle.mosi_cache.proofs.Frames.{length-lines, line-at}
 
 pub not-shared : (s : LineState) (o : Option ℕ) → (s ≡ Shared → ⊥) → slot_unless_shared s o ≡ o
@@ -30,34 +32,106 @@ unshared-none Owned = refl
 unshared-none Modified = refl
 unshared-none Exclusive = refl
 
--- one more frame
+-- frames of which those of a list are still to be settled: what settling leaves of a frame is what it left at first
+pub record AreSettling (before now : FrameSlots) (kept left : List FrameLine) (rest : List ℕ) : Type 0 where
+  pub slots : AreSlots now
+  pub sets : now.sets ≡ before.sets
+  pub ways : now.ways ≡ before.ways
+  pub whole : length left ≡ length kept
+  pub slot : (f : ℕ) → slot_unless_shared (kept_at left f).state (block_at now f) ≡ slot_unless_shared (kept_at kept f).state (block_at before f)
+  pub line : (f : ℕ) → as_modified (kept_at left f) ≡ as_modified (kept_at kept f)
+  pub others : (f b : ℕ) → is_listed rest f ≡ false → block_at now f ≡ Some b → (kept_at left f).state ≡ Modified
 
-done_step : (d e f : FrameSlots) (ks : List FrameLine) (n g : ℕ) → AreUnshared d e ks n → n < length e.slots →
-    f ≡ record e { slots = set e.slots n (slot_unless_shared (kept_at ks n).state (block_at e n)) } → g < n + 1 →
-    block_at f g ≡ slot_unless_shared (kept_at ks g).state (block_at d g)
-done_step d e f ks n g h l i m =
-    ap (λ (x : FrameSlots). block_at x g) i
-    ∙ ⊎_elim
-    (λ (j : g ≡ n). subst (λ (k : ℕ). get_or (set e.slots n (slot_unless_shared (kept_at ks n).state (block_at e n))) k None
-    ≡ slot_unless_shared (kept_at ks k).state (block_at d k)) (sym j)
-    (get_or-set_same e.slots n (slot_unless_shared (kept_at ks n).state (block_at e n)) None l
-    ∙ ap (slot_unless_shared (kept_at ks n).state) (h.rest n (omega arith))))
-    (λ (j : g ≡ n → ⊥). get_or-set_other e.slots n g (slot_unless_shared (kept_at ks n).state (block_at e n)) None j ∙ h.done g (omega arith))
-    (cases_eq g n)
-
-pub unshared-more : (d e f : FrameSlots) (ks : List FrameLine) (n : ℕ) → AreUnshared d e ks n → n < length e.slots →
-    f ≡ record e { slots = set e.slots n (slot_unless_shared (kept_at ks n).state (block_at e n)) } → AreSlots f → AreUnshared d f ks (n + 1)
-unshared-more d e f ks n h l i s = record {
+pub settling-first : (marks : List Bool) (places : List ℕ) (d : FrameSlots) (ks : List FrameLine) → AreSlots d → IsListOf marks places →
+    AreSettled marks d ks → AreSettling d d ks ks places
+settling-first marks places d ks s is h = record {
   slots = s;
-  sets = ap (λ (x : FrameSlots). x.sets) i ∙ h.sets;
-  ways = ap (λ (x : FrameSlots). x.ways) i ∙ h.ways;
-  done = λ g m. done_step d e f ks n g h l i m;
-  rest = λ g m. ap (λ (x : FrameSlots). block_at x g) i
-      ∙ get_or-set_other e.slots n g (slot_unless_shared (kept_at ks n).state (block_at e n)) None (λ (j : g ≡ n). absurd (omega arith))
-      ∙ h.rest g (omega arith);
+  sets = refl;
+  ways = refl;
+  whole = refl;
+  slot = λ f. refl;
+  line = λ f. refl;
+  others = λ f b k e. h.others f b ((unmarked-first marks places is).others f k) e;
 }
 
+-- a frame that is settled is left so
+module _ (d e : FrameSlots) (ks ms : List FrameLine) (places : List ℕ) (i f : ℕ) (x : FrameLine) (h : AreSettling d e ks ms (drop i places)) (listed : i < length places) (is : f ≡ get_or places i f) (l : f < length e.slots) (m : f < length ms) (read : x ≡ kept_at ms f) where
+  abbrev slots_then : List (Option ℕ)
+  slots_then = set e.slots f (slot_unless_shared x.state (block_at e f))
+
+  abbrev then : FrameSlots
+  then = record e { slots = slots_then }
+
+  rest : drop i places ≡ f ∷ drop (i + 1) places
+  rest = drop_more places i f listed ∙ ap (λ (q : ℕ). q ∷ drop (i + 1) places) (sym is)
+
+  slot_of : (g : ℕ) (t : Bool) → nat_eq f g ≡ t →
+      slot_unless_shared (kept_at (set ms f (as_modified x)) g).state (block_at then g) ≡ slot_unless_shared (kept_at ks g).state (block_at d g)
+  slot_of g true e' =
+      let s : f ≡ g = grind (arith, nat_tests) in
+      subst (λ (j : ℕ). slot_unless_shared (kept_at (set ms f (as_modified x)) j).state (block_at then j)
+      ≡ slot_unless_shared (kept_at ks j).state (block_at d j)) s
+      (ap (λ (k : FrameLine). slot_unless_shared k.state (block_at then f)) (get_or-set_same ms f (as_modified x) _ m)
+      ∙ get_or-set_same e.slots f (slot_unless_shared x.state (block_at e f)) None l
+      ∙ ap (λ (k : FrameLine). slot_unless_shared k.state (block_at e f)) read
+      ∙ h.slot f)
+  slot_of g false e' =
+      let n : g ≢ f = λ s. grind (arith, nat_tests) in
+      ap (λ (k : FrameLine). slot_unless_shared k.state (block_at then g)) (get_or-set_other ms f g (as_modified x) _ n)
+      ∙ ap (slot_unless_shared (kept_at ms g).state) (get_or-set_other e.slots f g (slot_unless_shared x.state (block_at e f)) None n)
+      ∙ h.slot g
+
+  line_of : (g : ℕ) (t : Bool) → nat_eq f g ≡ t → as_modified (kept_at (set ms f (as_modified x)) g) ≡ as_modified (kept_at ks g)
+  line_of g true e' =
+      let s : f ≡ g = grind (arith, nat_tests) in
+      subst (λ (j : ℕ). as_modified (kept_at (set ms f (as_modified x)) j) ≡ as_modified (kept_at ks j)) s
+      (ap as_modified (get_or-set_same ms f (as_modified x) _ m) ∙ ap as_modified read ∙ h.line f)
+  line_of g false e' =
+      let n : g ≢ f = λ s. grind (arith, nat_tests) in ap as_modified (get_or-set_other ms f g (as_modified x) _ n) ∙ h.line g
+
+  other_of : (g b : ℕ) (t : Bool) → nat_eq f g ≡ t → is_listed (drop (i + 1) places) g ≡ false → block_at then g ≡ Some b →
+      (kept_at (set ms f (as_modified x)) g).state ≡ Modified
+  other_of g b true e' k j =
+      let s : f ≡ g = grind (arith, nat_tests) in
+      subst (λ (n : ℕ). (kept_at (set ms f (as_modified x)) n).state ≡ Modified) s
+      (ap (λ (y : FrameLine). y.state) (get_or-set_same ms f (as_modified x) _ m))
+  other_of g b false e' k j =
+      let n : g ≢ f = λ s. grind (arith, nat_tests) in
+      ap (λ (y : FrameLine). y.state) (get_or-set_other ms f g (as_modified x) _ n)
+      ∙ h.others g b (ap (λ (ps : List ℕ). is_listed ps g) rest ∙ unlisted f g (drop (i + 1) places) e' k)
+      (sym (get_or-set_other e.slots f g (slot_unless_shared x.state (block_at e f)) None n) ∙ j)
+
+  pub settling-more : AreSlots then → AreSettling d then ks (set ms f (as_modified x)) (drop (i + 1) places)
+  settling-more s = record {
+    slots = s;
+    sets = h.sets;
+    ways = h.ways;
+    whole = length-set ms f (as_modified x) ∙ h.whole;
+    slot = λ g. slot_of g (nat_eq f g) refl;
+    line = λ g. line_of g (nat_eq f g) refl;
+    others = λ g b k j. other_of g b (nat_eq f g) refl k j;
+  }
+
 -- what is left
+
+freed_by : (s : LineState) (o p : Option ℕ) → ((b : ℕ) → o ≡ Some b → s ≡ Modified) → slot_unless_shared s o ≡ p → o ≡ p
+freed_by s None p h e = sym (unshared-none s) ∙ e
+freed_by s (Some b) p h e = sym (ap (λ (t : LineState). slot_unless_shared t (Some b)) (h b refl)) ∙ e
+
+pub settling-all : (d e : FrameSlots) (ks ms : List FrameLine) (places : List ℕ) (i : ℕ) → length places ≤ i →
+    AreSettling d e ks ms (drop i places) → AreUnshared d e ks ms
+settling-all d e ks ms places i l h =
+    let none : drop i places ≡ [] = drop_all i places l in
+    let settled : (f b : ℕ) → block_at e f ≡ Some b → (kept_at ms f).state
+    ≡ Modified = λ f b j. h.others f b (ap (λ (ps : List ℕ). is_listed ps f) none) j in
+    record {
+      slots = h.slots;
+      sets = h.sets;
+      ways = h.ways;
+      whole = h.whole;
+      freed = λ f. freed_by (kept_at ms f).state (block_at e f) _ (settled f) (h.slot f);
+      modified = λ f b j. ap (λ (s : LineState). record (kept_at ms f) { state = s }) (settled f b j) ∙ h.line f;
+    }
 
 still : (s : LineState) (o : Option ℕ) (b : ℕ) → slot_unless_shared s o ≡ Some b → (o ≡ Some b) × (s ≡ Shared → ⊥)
 still Absent o b h = (h, λ e. cc)
@@ -66,34 +140,34 @@ still Owned o b h = (h, λ e. cc)
 still Modified o b h = (h, λ e. cc)
 still Exclusive o b h = (h, λ e. cc)
 
--- frames that were all looked at, and what they keep then
+-- frames as they may be, that were all settled
 pub record IsBegun (d e : FrameSlots) (ks ms : List FrameLine) : Type 0 where
   pub old : AreLines d ks
-  pub unshared : AreUnshared d e ks (length ks)
-  pub whole : length ms ≡ length ks
-  pub kept : (f : ℕ) → f < length ks → kept_at ms f ≡ as_modified (kept_at ks f)
+  pub unshared : AreUnshared d e ks ms
 
-pub kept-begun : (ks ms : List FrameLine) → ((f : ℕ) (x : FrameLine) → f < length ks → get_or ms f x ≡ as_modified (get_or ks f x)) → (f : ℕ) →
-    f < length ks → kept_at ms f ≡ as_modified (kept_at ks f)
-kept-begun ks ms h f l = h f (record { state = Absent; content = [] }) l
-
-same_length : (d e : FrameSlots) (ks : List FrameLine) → AreLines d ks → AreUnshared d e ks (length ks) → length ks ≡ length e.slots
-same_length d e ks h u =
-    h.whole ∙ h.slots.whole ∙ ap (λ (n : ℕ). n * d.ways) (sym u.sets) ∙ ap (λ (n : ℕ). e.sets * n) (sym u.ways) ∙ sym u.slots.whole
+same_length : (d e : FrameSlots) (ks ms : List FrameLine) → IsBegun d e ks ms → length ks ≡ length e.slots
+same_length d e ks ms h =
+    h.old.whole ∙ h.old.slots.whole ∙ ap (λ (n : ℕ). n * d.ways) (sym h.unshared.sets) ∙ ap (λ (n : ℕ). e.sets * n) (sym h.unshared.ways)
+    ∙ sym h.unshared.slots.whole
 
 was_at : (d e : FrameSlots) (ks ms : List FrameLine) (f b : ℕ) → IsBegun d e ks ms → block_at e f ≡ Some b →
-    (f < length ks) × (block_at d f ≡ Some b) × ((kept_at ks f).state ≡ Shared → ⊥)
-was_at d e ks ms f b h i =
-    let l : f < length ks = omega (arith, at-inside e f b i, same_length d e ks h.old h.unshared) in
-    let s = still (kept_at ks f).state (block_at d f) b (sym (h.unshared.done f l) ∙ i) in
-    (l, s.0, s.1)
+    (block_at d f ≡ Some b) × ((kept_at ks f).state ≡ Shared → ⊥)
+was_at d e ks ms f b h i = still (kept_at ks f).state (block_at d f) b (sym (h.unshared.freed f) ∙ i)
 
 pub lines-begun : (d e : FrameSlots) (ks ms : List FrameLine) → IsBegun d e ks ms → AreLines e ms
 lines-begun d e ks ms h = record {
   slots = h.unshared.slots;
-  whole = h.whole ∙ same_length d e ks h.old h.unshared;
-  inside = λ f b i. h.old.inside f b (was_at d e ks ms f b h i).1;
-  present = λ f b i. subst (λ (k : FrameLine). is_present k.state ≡ true) (sym (h.kept f (was_at d e ks ms f b h i).0)) refl;
+  whole = h.unshared.whole ∙ same_length d e ks ms h;
+  inside = λ f b i. h.old.inside f b (was_at d e ks ms f b h i).0;
+  present = λ f b i. subst (λ (k : FrameLine). is_present k.state ≡ true) (sym (h.unshared.modified f b i)) refl;
+}
+
+-- no frame is touched any more
+pub settled-begun : (n : ℕ) (d e : FrameSlots) (ks ms : List FrameLine) → n ≡ length ks → AreUnshared d e ks ms →
+    AreSettled (replicate n false) e ms
+settled-begun n d e ks ms l h = record {
+  whole = length-replicate n false ∙ l ∙ sym h.whole;
+  others = λ f b _ i. ap (λ (k : FrameLine). k.state) (h.modified f b i);
 }
 
 -- the line of a block
@@ -120,20 +194,20 @@ none_left Exclusive x h = cc
 
 line_step : (d e : FrameSlots) (ks ms : List FrameLine) (b : ℕ) (o : Option ℕ) → IsBegun d e ks ms → frame_of d b ≡ o →
     line_in e ms b ≡ begun_line (line_in_frame ks o)
-line_step d e ks ms b None h i = ap (line_in_frame ms) (frame-none e b (λ f j. none-at d f b i (was_at d e ks ms f b h j).1))
+line_step d e ks ms b None h i = ap (line_in_frame ms) (frame-none e b (λ f j. none-at d f b i (was_at d e ks ms f b h j).0))
 line_step d e ks ms b (Some f) h i =
     let a = found-at d f b i in
-    let l : f < length ks = omega (arith, at-inside d f b a, h.old.whole) in
     ⊎_elim
     (λ (s : (kept_at ks f).state ≡ Shared).
     ap (line_in_frame ms) (frame-none e b (λ g j.
     let w = was_at d e ks ms g b h j in
-    w.2 (sym (ap (λ (n : ℕ). (kept_at ks n).state) (h.old.slots.apart f g b a w.1)) ∙ s)))
+    w.1 (sym (ap (λ (n : ℕ). (kept_at ks n).state) (h.old.slots.apart f g b a w.0)) ∙ s)))
     ∙ sym (none_left (kept_at ks f).state (kept_at ks f).content s))
     (λ (s : (begun_line (line_kept (kept_at ks f)) ≡ record { state = Modified; content = (kept_at ks f).content })
     × ((p : Option ℕ) → slot_unless_shared (kept_at ks f).state p ≡ p)).
-    ap (line_in_frame ms) (frame-found e f b h.unshared.slots (h.unshared.done f l ∙ s.1 (block_at d f) ∙ a))
-    ∙ ap line_kept (h.kept f l)
+    let j = h.unshared.freed f ∙ s.1 (block_at d f) ∙ a in
+    ap (line_in_frame ms) (frame-found e f b h.unshared.slots j)
+    ∙ ap line_kept (h.unshared.modified f b j)
     ∙ sym s.0)
     (shared_or_owned (kept_at ks f).state (kept_at ks f).content (h.old.present f b a))
 

@@ -1,5 +1,7 @@
--- The frames while a recovery begins: those whose lines are Shared are freed, and each line that is left is Modified.
-use Rattle.std.specs.Prelude.{◌≡◌, ℕ, ◌<◌, ◌≤◌, List, Option, None}
+-- The frames while a recovery begins: those whose lines are Shared are freed, and each line that is left is Modified. A frame that
+-- wasn't touched since the last recovery is so already.
+use Rattle.std.specs.Prelude.{◌≡◌, ℕ, Bool, false, List, length, Option, Some, None}
+use Rattle.touched_places.specs.Touched.{is_marked}
 use Rattle.cache_array.specs.Slots.{FrameSlots, AreSlots, block_at}
 use Rattle.sn_model.specs.declared.cache.LineState.{LineState}
 use Rattle.sn_model.specs.declared.cache.LineState.TheVariants.{Absent, Shared, Owned, Modified, Exclusive}
@@ -13,14 +15,20 @@ slot_unless_shared Owned slot = slot
 slot_unless_shared Modified slot = slot
 slot_unless_shared Exclusive slot = slot
 
--- frames after others: those before the end are freed where what they keep is Shared, and the rest are as they were
-pub record AreUnshared (before after : FrameSlots) (kept : List FrameLine) (end : ℕ) : Type 0 where
-  pub slots : AreSlots after
-  pub sets : after.sets ≡ before.sets
-  pub ways : after.ways ≡ before.ways
-  pub done : (frame : ℕ) → frame < end → block_at after frame ≡ slot_unless_shared (kept_at kept frame).state (block_at before frame)
-  pub rest : (frame : ℕ) → end ≤ frame → block_at after frame ≡ block_at before frame
-
 -- what a frame keeps, as Modified
 abbrev pub as_modified : FrameLine → FrameLine
 as_modified kept = record kept { state = Modified }
+
+-- frames after others: each is freed where what it keeps is Shared, and what is kept of a block that has one still is as it was, as Modified
+pub record AreUnshared (before after : FrameSlots) (kept left : List FrameLine) : Type 0 where
+  pub slots : AreSlots after
+  pub sets : after.sets ≡ before.sets
+  pub ways : after.ways ≡ before.ways
+  pub whole : length left ≡ length kept
+  pub freed : (frame : ℕ) → block_at after frame ≡ slot_unless_shared (kept_at kept frame).state (block_at before frame)
+  pub modified : (frame block : ℕ) → block_at after frame ≡ Some block → kept_at left frame ≡ as_modified (kept_at kept frame)
+
+-- each frame is marked, or it is free, or the line in it is Modified
+pub record AreSettled (marks : List Bool) (frames : FrameSlots) (kept : List FrameLine) : Type 0 where
+  pub whole : length marks ≡ length kept
+  pub others : (frame block : ℕ) → is_marked marks frame ≡ false → block_at frames frame ≡ Some block → (kept_at kept frame).state ≡ Modified

@@ -16,6 +16,7 @@ use sn_base::{Block, BlockNo, Memory};
 use sn_model::{LineState, Need};
 use std::alloc::Global;
 use std::marker::Model;
+use touched_places::Touched;
 
 /// What a frame keeps: the state and the content of its block's line. What a free frame keeps is never read.
 #[derive(Clone, Copy, PartialEq, Eq, Debug)]
@@ -24,11 +25,13 @@ pub struct FrameLine {
     pub content: Block,
 }
 
-/// The lines. Contracts see the line of each block, and how many sets and ways there are.
+/// The lines. Contracts see the line of each block, and how many sets and ways there are. A frame that isn't touched is free, or its
+/// line is Modified, as a recovery leaves it.
 #[derive(Drop)]
 pub struct Lines {
     frames: Frames,
     kept: Vec<FrameLine>,
+    touched: Touched,
     sets: u16,
     ways: u8,
 }
@@ -36,12 +39,14 @@ pub struct Lines {
 impl Model for Lines {
     ghost use Rattle.std.specs.Prelude.{◌≡◌};
     ghost use Rattle.mosi_cache.specs.Frames.{LinesData, lines_of, AreLines};
+    ghost use Rattle.mosi_cache.specs.Unshared.{AreSettled};
 
     ghost Value = { LinesData };
 
     ghost view = { λ l. record { lines = lines_of l.frames l.kept.items; sets = l.frames.sets; ways = l.frames.ways } };
 
-    ghost invariant = { λ l. AreLines l.frames l.kept.items × (l.sets ≡ l.frames.sets) × (l.ways ≡ l.frames.ways) };
+    ghost invariant = { λ l. AreLines l.frames l.kept.items × (l.sets ≡ l.frames.sets) × (l.ways ≡ l.frames.ways)
+        × AreSettled l.touched l.frames l.kept.items };
 }
 
 fn may_go(kept: &FrameLine, number: u16, spared: &Option<BlockNo>, owned_too: bool) -> bool
@@ -123,9 +128,11 @@ impl Lines {
             content: Block::zero(),
         };
         let kept = vec![in alloc; nothing; usize::from(sets) * usize::from(ways)]?;
+        let touched = Touched::new(alloc, kept.len())?;
         Ok(Lines {
             frames,
             kept,
+            touched,
             sets,
             ways,
         })
@@ -170,9 +177,13 @@ impl Lines {
     {
         let line = FrameLine { state, content };
         match self.frames.find(block) {
-            Some(frame) => self.kept[frame] = line,
+            Some(frame) => {
+                self.touched.touch(frame);
+                self.kept[frame] = line;
+            }
             None => {
                 let frame = self.frames.reserve(block);
+                self.touched.touch(frame);
                 self.kept[frame] = line;
             }
         }

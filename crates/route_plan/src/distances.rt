@@ -151,6 +151,12 @@ impl Distances {
         self.grid.nodes()
     }
 
+    pub fn dead(&self) -> Dead
+        ensures { result ≡ self.now.dead }
+    {
+        self.dead
+    }
+
     /// How many links a switch is from a node; `APART` where no path joins them.
     pub fn get(&self, to: NodeId, switch: u8) -> u8
         requires receiver { to < self.now.nodes }

@@ -75,6 +75,29 @@ pub fn cut_off(nodes: u8, dead: Dead) -> Option<(NodeId, NodeId)>
 }
 
 impl Routes {
+    /// Whether these are the routes round just these dead switches, so that nothing is to be made anew.
+    fn is_round(&self, dead: Dead) -> bool
+        ensures same { result ≡ true → record self.now { dead = dead } ≡ self.now }
+        ensures sized { IsSized self.now }
+        ensures joined { first_cut_off self.now ≡ None }
+    {
+        self.distances.dead() == dead
+    }
+
+    /// The first pair of nodes, the lesser first, that no path of living switches joins, where these are dead. It looks for none
+    /// where these are the dead switches that the routes were made for.
+    pub fn cut_off(&self, dead: Dead) -> Option<(NodeId, NodeId)>
+        ensures pair { result ≡ first_cut_off (record self.now { dead = dead }) }
+        ensures first { IfSome result (λ p. IsFirstCutOff (record self.now { dead = dead }) p.0 p.1) }
+        ensures none { IsNone result ↔ ((a b : ℕ) → a < self.now.nodes → b < self.now.nodes →
+            AreJoined (record self.now { dead = dead }) a b) }
+    {
+        if self.is_round(dead) {
+            return None;
+        }
+        cut_off(self.distances.nodes(), dead)
+    }
+
     /// Makes the routes anew. They stay as they are where two nodes would be cut off from each other.
     pub fn replan(&mut self, dead: Dead) -> Result<(), (NodeId, NodeId)>
         ensures made { IsOk result → self.new ≡ record self.old { dead = dead } }
@@ -82,6 +105,9 @@ impl Routes {
         ensures cut_off { IfSome (first_cut_off (record self.old { dead = dead })) (λ p. result ≡ Err p) }
         ensures joined { IsNone (first_cut_off (record self.old { dead = dead })) → IsOk result }
     {
+        if self.is_round(dead) {
+            return Ok(());
+        }
         let distances = Distances::find(self.distances.nodes(), dead);
         if let Some(pair) = distances.first_cut_off() {
             return Err(pair);

@@ -56,27 +56,20 @@ impl Fabric {
         requires { k ≡ self.old.fabric.point }
         ensures { IsAfter self.old self.new result (step_of_recovery self.old.fabric k) }
     {
-        match self.net.cut_off() {
-            Some((first, second)) => {
+        match self.net.recover() {
+            Err((first, second)) => {
                 self.send_nothing();
                 Answer::CutOff(first, second)
             }
-            None => Answer::Recovered(self.restore(k)),
-        }
-    }
-
-    fn restore(&mut self, k: Interval) -> Undo
-        requires point { k ≡ self.old.fabric.point }
-        requires joined { first_cut_off (living_switches self.old.fabric) ≡ None }
-        ensures { IsAfter self.old self.new (Recovered result) (step_of_recovery self.old.fabric k) }
-    {
-        self.sent.clear();
-        let undone = restore_nodes(self.units.as_mut_slice(), self.homes.as_mut_slice(), k);
-        let dropped = self.net.recover().unwrap();
-        Undo {
-            to: k,
-            undone,
-            dropped,
+            Ok(dropped) => {
+                self.sent.clear();
+                let undone = restore_nodes(self.units.as_mut_slice(), self.homes.as_mut_slice(), k);
+                Answer::Recovered(Undo {
+                    to: k,
+                    undone,
+                    dropped,
+                })
+            }
         }
     }
 }

@@ -13,7 +13,7 @@ ghost use Rattle.switch_net.specs.Net.{without_messages};
 use crate::answers::{HopAnswer, TakeFault};
 use crate::flight::Flight;
 use crate::messages::Messages;
-use route_plan::{Dead, PlanFault, Routes, cut_off, plan};
+use route_plan::{Dead, PlanFault, Routes, plan};
 use sn_base::{BlockNo, Interval, MESSAGES, Memory, MsgId, NodeId, SwitchId};
 use sn_msg::{Body, Message};
 use std::alloc::Global;
@@ -279,7 +279,7 @@ impl Net {
         ensures none { IsNone result ↔ ((a b : ℕ) → a < self.now.routes.nodes → b < self.now.routes.nodes →
             AreJoined (living_now self.now) a b) }
     {
-        cut_off(self.nodes, self.dead)
+        self.routes.cut_off(self.dead)
     }
 
     /// Makes the routes anew and drops every message; the answer is how many there were. It is refused where two nodes

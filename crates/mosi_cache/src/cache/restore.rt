@@ -17,7 +17,8 @@ use sn_model::LineState;
 
 impl Cache {
     /// Begins a recovery: Shared copies are dropped, the open miss and the open put are given up, and each line that owns its
-    /// block is Modified. Walks all frames of the cache. What is left is what `unwind` goes back from.
+    /// block is Modified. It looks only at the frames that were touched since the last time. What is left is what `unwind` goes back
+    /// from.
     pub fn begin_restore(&mut self)
         ensures { self.new ≡ record self.old { cache = begun_restore self.old.cache } }
     {

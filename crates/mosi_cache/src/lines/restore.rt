@@ -1,13 +1,13 @@
 //! The lines once a recovery begins: each that owns its block is Modified, and the Shared copies are gone.
-ghost use Rattle.std.specs.Prelude.{◌≡◌, ℕ, ◌*◌, ◌<◌, length, map, slice_index_or, slice_set};
+ghost use Rattle.std.specs.Prelude.{◌≡◌, ◌*◌, ◌<◌, length, map, slice_set};
 ghost use Rattle.cache_array.specs.Slots.{AreSlots, block_at};
-ghost use Rattle.mosi_cache.specs.Frames.{FrameLine};
 ghost use Rattle.mosi_cache.specs.Restored.{begun_line};
-ghost use Rattle.mosi_cache.specs.Unshared.{slot_unless_shared, AreUnshared, as_modified};
+ghost use Rattle.mosi_cache.specs.Unshared.{slot_unless_shared, AreUnshared, AreSettled};
 
 use super::{FrameLine, Lines};
 use cache_array::Frames;
 use sn_model::LineState;
+use touched_places::Touched;
 
 /// Frees the frame where the line in it is in the state Shared.
 fn free_if_shared(frames: &mut Frames, frame: usize, state: LineState)
@@ -25,32 +25,28 @@ fn free_if_shared(frames: &mut Frames, frame: usize, state: LineState)
     }
 }
 
-fn free_shared(frames: &mut Frames, kept: &[FrameLine])
-    requires whole { length kept.now ≡ frames.old.sets * frames.old.ways }
+/// Frees each frame whose line is Shared, and makes the other lines Modified: so they are but for the touched frames already.
+fn settle(frames: &mut Frames, kept: &mut Vec<FrameLine>, touched: &Touched)
     requires slots { AreSlots frames.old }
-    ensures { AreUnshared frames.old frames.new kept.now (length kept.now) }
+    requires whole { length kept.old.items ≡ length frames.old.slots }
+    requires settled { AreSettled touched.now frames.old kept.old.items }
+    ensures { AreUnshared frames.old frames.new kept.old.items kept.new.items }
 {
-    'frames: for frame in 0..kept.len() {
-        free_if_shared(frames, frame, kept[frame].state);
-    }
-}
-
-fn make_modified(kept: &mut [FrameLine])
-    ensures { (frame : ℕ) (d : FrameLine) → frame < length kept.old →
-        slice_index_or kept.new frame d ≡ as_modified (slice_index_or kept.old frame d) }
-{
-    'frames: for line in kept.iter_mut() {
+    'frames: for frame in touched.places() {
+        let line = &mut kept[*frame];
+        free_if_shared(frames, *frame, line.state);
         line.state = LineState::Modified;
     }
 }
 
 impl Lines {
-    /// Drops the Shared copies, and makes each line that owns its block Modified. Walks all frames.
+    /// Drops the Shared copies, and makes each line that owns its block Modified. It looks only at the frames that were touched
+    /// since the last time.
     pub fn keep_owned(&mut self)
         ensures { self.new ≡ record self.old { lines = map begun_line self.old.lines } }
     {
-        free_shared(&mut self.frames, &self.kept);
-        make_modified(&mut self.kept);
+        settle(&mut self.frames, &mut self.kept, &self.touched);
+        self.touched.clear();
     }
 }
 

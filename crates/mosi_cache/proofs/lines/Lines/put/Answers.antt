@@ -1,8 +1,10 @@
-use Rattle.std.proofs.Common.{◌≡◌, List, [], set, sym, ap, subst, ◌∙◌}
-use Rattle.cache_array.specs.Slots.{FrameSlots}
+use Rattle.std.proofs.Common.{◌≡◌, ◌<◌, List, [], length, set, sym, ap, subst, ◌∙◌, arith}
+use Rattle.cache_array.specs.Slots.{FrameSlots, block_at}
+use Rattle.cache_array.proofs.Slots.{frame-inside}
 use Rattle.sn_model.specs.Caches.{Line}
 use Rattle.mosi_cache.specs.Frames.{LinesData, HasFrame, lines_of}
 use Rattle.mosi_cache.proofs.Changes.{Changed, put-found, put-new, has-frame}
+use Rattle.mosi_cache.proofs.Settled.{settled-touched, other-taken}
 use Rattle.mosi_cache.proofs.lines.Lines.put.Goals as goal
 
 -- the value of lines in so many sets and ways
@@ -54,7 +56,17 @@ same_ways : (c : goal.After-self-in-None-1) → c.self.inside.frames.ways ≡ c.
 same_ways c = ap (λ (f : FrameSlots). f.ways) (sym c.reserve-frame.ensures.slots)
 
 pub invariant_of-self-in-None : goal.invariant_of-self-in-None
-invariant_of-self-in-None c = ((fresh c).frames, c.self.invariant.1 ∙ same_sets c, c.self.invariant.2 ∙ same_ways c)
+invariant_of-self-in-None c =
+    let d = c.self.inside.frames in
+    let frame = c.reserve-frame.result in
+    let i : frame < length c.self.inside.kept.items = omega (arith, c.self.invariant.0.whole, frame-inside d frame c.args.block c.self.invariant.0.slots c.reserve-frame.ensures.own) in (
+      (fresh c).frames,
+      c.self.invariant.1 ∙ same_sets c,
+      c.self.invariant.2 ∙ same_ways c,
+      rw c.touch-in-None.ensures
+          (settled-touched c.self.inside.touched d c.reserve-frame.new.self c.self.inside.kept.items frame (record { state = c.args.state; content = c.args.content }) i
+          (λ g n. ap (λ (e : FrameSlots). block_at e g) c.reserve-frame.ensures.slots ∙ other-taken d frame c.args.block g n) c.self.invariant.3),
+    )
 
 pub returns-in-None-clause-lines : goal.returns-in-None-clause-lines
 returns-in-None-clause-lines c =

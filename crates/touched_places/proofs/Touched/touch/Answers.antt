@@ -1,8 +1,8 @@
 use Rattle.std.proofs.Common.{◌≡◌, ◌<◌, true, false, length, sym, ◌∙◌, arith, length-set}
 use Rattle.std.proofs.lemmas.List.{get_or_read}
-use Rattle.home_directory.specs.Touched.{is_marked}
-use Rattle.home_directory.proofs.Listing.{room-to_list, listed-more}
-use Rattle.home_directory.proofs.touched.Touched.touch.Goals as goal
+use Rattle.touched_places.specs.Touched.{is_marked}
+use Rattle.touched_places.proofs.Listing.{room-to_list, listed-more}
+use Rattle.touched_places.proofs.Touched.touch.Goals as goal
 
 -- a place that isn't marked has room in the list
 pub unwrap-requires : goal.unwrap-requires

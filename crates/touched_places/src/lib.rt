@@ -1,7 +1,13 @@
 //! Which places were touched since the last recovery, so that a recovery looks at these alone.
+//!
+//! A home has a place for each of its blocks, a cache one for each of its frames. Whoever changes what stands in a place touches
+//! it, and a recovery goes through the list of the touched ones in place of all. The layer above knows a mark for each place.
+//! Nothing here knows what stands in a place, and only `new` takes memory.
+#![tactic(auto)]
+
 ghost use Rattle.std.specs.Prelude.{◌≡◌, ◌<◌, ◌≤◌, ℕ, true, false, length, replicate, slice_set, vec_len, IfOk};
 ghost use Rattle.std.specs.List.{All};
-ghost use Rattle.home_directory.specs.Touched.{IsListOf};
+ghost use Rattle.touched_places.specs.Touched.{IsListOf};
 
 use sn_base::Memory;
 use std::alloc::Global;
@@ -17,7 +23,7 @@ pub struct Touched {
 
 impl Model for Touched {
     ghost use Rattle.std.specs.Prelude.{◌≤◌, List, Bool, length, vec_capacity};
-    ghost use Rattle.home_directory.specs.Touched.{IsListOf};
+    ghost use Rattle.touched_places.specs.Touched.{IsListOf};
 
     ghost Value = { List Bool };
 

@@ -1,6 +1,6 @@
 use Rattle.std.proofs.Common.{drop}
-use Rattle.home_directory.proofs.Listing.{AreUnmarked}
-use Rattle.home_directory.proofs.touched.unmark.Given as goal
+use Rattle.touched_places.proofs.Listing.{AreUnmarked}
+use Rattle.touched_places.proofs.unmark.Given as goal
 
 -- the marks of the places that are left are still to be taken away
 abbrev pub invariant-places : goal.invariant-places
