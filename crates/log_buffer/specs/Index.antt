@@ -12,7 +12,7 @@ entries_of stored = map (λ x. x.entry) stored
 
 -- what the table has for this side and block
 abbrev pub newest_of : Newest → Bool → ℕ → Option ℕ
-newest_of newest home_side block = slice_index_or (if home_side then newest.home.items else newest.cache.items) block None
+newest_of newest home_side block = slice_index_or (if home_side then newest.home else newest.cache) block None
 
 -- whether two sides and blocks are the same
 abbrev pub are_same : Bool → ℕ → Bool → ℕ → Bool

@@ -1,8 +1,9 @@
 //! Where entries stand: in each stored entry the place of the one before it of its side and block, and beside the list, for
 //! each side and block, the place of the last.
-ghost use Rattle.std.specs.Prelude.{◌≡◌, ℕ, ◌<◌, Bool, None, if◌then◌else◌, length, replicate, IfOk};
+ghost use Rattle.std.specs.Prelude.{◌≡◌, ℕ, ◌<◌, Bool, None, if◌then◌else◌, length, IfOk};
 
 use sn_base::{BLOCKS, BlockNo, LogEntry, Memory, is_home_side};
+use sparse_table::SparseTable;
 use std::alloc::Global;
 
 /// An entry in its list, and the place of the next older entry of its side and block.
@@ -13,22 +14,13 @@ pub struct Stored {
 }
 
 /// The place of the newest entry of each block, on the home's side and on the cache's. A log has at most 65,535 entries.
+/// Most blocks never have one, so only the parts of the tables are written that do.
 #[derive(Drop)]
 pub struct Newest {
-    home: Vec<Option<u16>>,
-    cache: Vec<Option<u16>>,
-    ghost home_blocks: { length home.items ≡ 65536 },
-    ghost cache_blocks: { length cache.items ≡ 65536 },
-}
-
-fn nowhere(alloc: Global) -> Result<Vec<Option<u16>>, Memory>
-    ensures { IfOk result (λ v. v.items ≡ replicate 65536 None) }
-{
-    let mut places = Vec::with_capacity(alloc, BLOCKS)?;
-    'each: for _ in 0..BLOCKS {
-        places.push(None)?;
-    }
-    Ok(places)
+    home: SparseTable<Option<u16>>,
+    cache: SparseTable<Option<u16>>,
+    ghost home_blocks: { length home ≡ 65536 },
+    ghost cache_blocks: { length cache ≡ 65536 },
 }
 
 impl Newest {
@@ -38,8 +30,8 @@ impl Newest {
     pub fn new(alloc: Global) -> Result<Newest, Memory>
         ensures { IfOk result (λ n. (s : Bool) (b : ℕ) → newest_of n s b ≡ None) }
     {
-        let home = nowhere(alloc)?;
-        let cache = nowhere(alloc)?;
+        let home = SparseTable::new(alloc, BLOCKS)?;
+        let cache = SparseTable::new(alloc, BLOCKS)?;
         Ok(Newest { home, cache })
     }
 
@@ -48,7 +40,7 @@ impl Newest {
         ensures small { block < 65536 }
     {
         let places = if home_side { &self.home } else { &self.cache };
-        places[usize::from(block.number())]
+        *places.at(usize::from(block.number()))
     }
 
     pub fn put(&mut self, home_side: bool, block: BlockNo, place: Option<u16>)
@@ -57,9 +49,9 @@ impl Newest {
     {
         let number = usize::from(block.number());
         if home_side {
-            self.home[number] = place;
+            *self.home.at_mut(number) = place;
         } else {
-            self.cache[number] = place;
+            *self.cache.at_mut(number) = place;
         }
     }
 
