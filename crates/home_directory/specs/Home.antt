@@ -1,10 +1,10 @@
 -- A home as a value: the entries of the blocks of which a node is the home, in order of block numbers.
-use Rattle.std.specs.Prelude.{◌≡◌, ℕ, zero, suc, ◌+◌, ◌-◌, ◌*◌, ◌/◌, ◌<◌, ◌≤◌, min, List, [], ◌∷◌, ◌++◌, slice_index_or, slice_set, length}
+use Rattle.std.specs.Prelude.{◌≡◌, ℕ, zero, suc, ◌+◌, ◌-◌, ◌*◌, ◌/◌, ◌<◌, ◌≤◌, min, List, [], ◌∷◌, ◌++◌, slice_index_or, slice_set, length, replicate}
 use Rattle.std.specs.Prelude.{Option, Some, None}
 use Rattle.sn_base.specs.Image.{ImageData}
 use Rattle.sn_model.specs.declared.home.Owner.{Owner}
 use Rattle.sn_model.specs.declared.home.Owner.TheVariants.{Home, Cache}
-use Rattle.sn_model.specs.Homes.{HomeEntry, Holder, Itself, OfCache, Transaction}
+use Rattle.sn_model.specs.Homes.{HomeEntry, Holder, Itself, OfCache, Transaction, no_sharers}
 use Rattle.sn_model.specs.Fabric.{first_home, no_entry}
 
 -- the node, how many nodes there are, and the entries: at place p that of block node + nodes * p
@@ -23,6 +23,10 @@ with_entry home block entry = record home { entries = slice_set home.entries (bl
 -- how many of the 65536 blocks of memory have their home at a node
 abbrev pub places_of : ℕ → ℕ → ℕ
 places_of node nodes = (65535 - node) / nodes + 1
+
+-- the entry at the start of a block to which the program gives no byte but 0
+abbrev pub usual_entry : HomeEntry
+usual_entry = record { holder = Itself (replicate 64 0); sharers = no_sharers; transaction = None }
 
 -- the first entries of a home at the start: it owns its blocks, with the bytes that the program gives them
 abbrev pub entries_below : ℕ → ImageData → ℕ → ℕ → List HomeEntry

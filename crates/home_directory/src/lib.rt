@@ -37,6 +37,7 @@ use open::Open;
 use sn_base::{Block, BlockNo, Image, Interval, Memory, NodeId, NodeSet};
 pub use sn_model::{Look, Out, Owner};
 use sn_msg::Message;
+use sparse_table::SparseTable;
 use std::alloc::Global;
 use std::marker::Model;
 pub use step::HomeStep;
@@ -44,11 +45,12 @@ use touched_places::Touched;
 
 /// The home of a node. Contracts see the node, the number of nodes, and the entries of its blocks in order. The open
 /// transactions stand in a list too, which has room for one of each block. An entry that isn't touched is as a recovery leaves it.
+/// Entries are written where the program gives their blocks bytes, and else when a message first comes about a block near by.
 #[derive(Drop)]
 pub struct Home {
     node: NodeId,
     nodes: u8,
-    entries: Vec<DirectoryEntry>,
+    entries: SparseTable<DirectoryEntry>,
     opens: Vec<Open>,
     touched: Touched,
 }
@@ -61,11 +63,11 @@ impl Model for Home {
 
     ghost Value = { HomeData };
 
-    ghost view = { λ h. record { node = h.node; nodes = h.nodes; entries = h.entries.items } };
+    ghost view = { λ h. record { node = h.node; nodes = h.nodes; entries = h.entries } };
 
-    ghost invariant = { λ h. IsHome (record { node = h.node; nodes = h.nodes; entries = h.entries.items })
-        × (h.opens.items ≡ opens_from 0 h.entries.items) × (length h.entries.items ≤ vec_capacity h.opens)
-        × AreCleared h.touched h.entries.items };
+    ghost invariant = { λ h. IsHome (record { node = h.node; nodes = h.nodes; entries = h.entries })
+        × (h.opens.items ≡ opens_from 0 h.entries) × (length h.entries ≤ vec_capacity h.opens)
+        × AreCleared h.touched h.entries };
 }
 
 impl Home {
@@ -111,7 +113,7 @@ impl Home {
     {
         let place = self.place(message.block);
         self.touched.touch(place);
-        let entry = &mut self.entries[place];
+        let entry = self.entries.at_mut(place);
         let step = receive::receive(entry, message, now, log);
         let begun = entry.begun();
         open::relist(&mut self.opens, place, begun);
@@ -128,7 +130,7 @@ impl Home {
         ensures { result ≡ look_of (receipt_of self.now log.now now message.now).verdict }
     {
         let place = self.place(message.block);
-        receive::look(&self.entries[place], message, now, log)
+        receive::look(self.entries.at(place), message, now, log)
     }
 
     /// Who owns a block of this home.
@@ -137,7 +139,7 @@ impl Home {
         ensures { result ≡ owner_of (entry_of self.now block).holder }
     {
         let place = self.place(block);
-        self.entries[place].owner
+        self.entries.at(place).owner
     }
 
     /// The content of a block that the home itself owns.
@@ -147,7 +149,7 @@ impl Home {
         ensures { (entry_of self.now block).holder ≡ Itself result.now }
     {
         let place = self.place(block);
-        &self.entries[place].memory
+        &self.entries.at(place).memory
     }
 
     /// Which nodes share a block of this home.
@@ -156,7 +158,7 @@ impl Home {
         ensures { result ≡ (entry_of self.now block).sharers }
     {
         let place = self.place(block);
-        self.entries[place].sharers
+        self.entries.at(place).sharers
     }
 
     /// The transaction that is open on a block of this home, if there is one.
@@ -165,7 +167,7 @@ impl Home {
         ensures { result ≡ (entry_of self.now block).transaction }
     {
         let place = self.place(block);
-        self.entries[place].transaction
+        self.entries.at(place).transaction
     }
 
     /// The least interval in which one of the open transactions was begun. None where none is open.

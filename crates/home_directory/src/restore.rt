@@ -10,15 +10,16 @@ use crate::entry::DirectoryEntry;
 use rollback::Restore;
 use sn_base::{Block, BlockNo, NodeId, NodeSet, Old};
 use sn_model::Owner;
+use sparse_table::SparseTable;
 use touched_places::Touched;
 
 /// Nobody shares a block, and nothing is open: so it is but for the touched places already.
-fn clear_entries(entries: &mut Vec<DirectoryEntry>, touched: &Touched)
-    requires { AreCleared touched.now entries.old.items }
-    ensures { entries.new.items ≡ map entry_without_sharers entries.old.items }
+fn clear_entries(entries: &mut SparseTable<DirectoryEntry>, touched: &Touched)
+    requires { AreCleared touched.now entries.old }
+    ensures { entries.new ≡ map entry_without_sharers entries.old }
 {
     'places: for place in touched.places() {
-        let entry = &mut entries[*place];
+        let entry = entries.at_mut(*place);
         entry.sharers = NodeSet::empty();
         entry.transaction = None;
     }
@@ -42,7 +43,7 @@ impl Home {
         ensures inside { block / self.old.nodes < length self.old.entries }
     {
         let place = self.place(block);
-        let entry = &mut self.entries[place];
+        let entry = self.entries.at_mut(place);
         entry.owner = Owner::Home;
         entry.memory = *content;
     }
@@ -53,7 +54,7 @@ impl Home {
         ensures inside { block / self.old.nodes < length self.old.entries }
     {
         let place = self.place(block);
-        let entry = &mut self.entries[place];
+        let entry = self.entries.at_mut(place);
         entry.owner = Owner::Cache(node);
     }
 }

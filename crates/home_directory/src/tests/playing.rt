@@ -111,7 +111,7 @@ fn serve(at: &mut AtHome, message: &Message, now: Interval) -> Option<Answer> {
         return None;
     }
     let place = at.home.place(message.block);
-    if !has_row(&at.home.entries[place], message) || !notes_last(&at.log, true, message.block) {
+    if !has_row(at.home.entries.at(place), message) || !notes_last(&at.log, true, message.block) {
         return None;
     }
     let look = at.home.look(message, now, &at.log);

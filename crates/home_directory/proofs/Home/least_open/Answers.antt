@@ -9,5 +9,5 @@ pub returns : goal.returns
 returns c =
     c.least.ensures
     ∙ ap least_in (c.as_slice.ensures.value ∙ c.self.invariant.1)
-    ∙ least_is 0 c.self.inside.entries.items
+    ∙ least_is 0 c.self.inside.entries
     ∙ ap (λ (h : HomeData). least_open h.entries) c.self.view_is

@@ -13,16 +13,16 @@ places-preserved c =
     let places = c.places-place-items.result.now in
     let i = c.places.place-index in
     let place = slice_index_or places i 0 in
-    let now = c.places.entries.items in
+    let now = c.places.entries in
     let l : i < length places = omega arith in
     let m : place < length now = omega (arith, c.places-place-items.ensures.inside i 0 l, c.requires.whole, c.places.invariant.whole) in
     rw c.empty-entry-inside.ensures
-    (subst (λ (x : HomeEntry). AreClearing c.args.entries.now.items (set now place (entry_without_sharers x)) (drop (i + 1) places)) (sym c.entry.view_is)
-    (clearing-more c.args.entries.now.items now places i place c.index_mut-entry.result.now l (get_or_default places i 0 place l) m
-    (c.index_mut-entry.ensures.value ∙ get_or_default now place c.index_mut-entry.result.now no_entry m) c.places.invariant))
+    (subst (λ (x : HomeEntry). AreClearing c.args.entries.now (set now place (entry_without_sharers x)) (drop (i + 1) places)) (sym c.entry.view_is)
+    (clearing-more c.args.entries.now now places i place c.at_mut-entry.result.now l (get_or_default places i 0 place l) m
+    (c.at_mut-entry.ensures.value ∙ get_or_default now place c.at_mut-entry.result.now no_entry m) c.places.invariant))
 
 -- what isn't listed was cleared before
 pub returns : goal.returns
 returns c =
-    clearing-all c.args.entries.now.items c.places.entries.items c.places-place-items.result.now c.places.place-index
+    clearing-all c.args.entries.now c.places.entries c.places-place-items.result.now c.places.place-index
     (omega arith) c.places.invariant

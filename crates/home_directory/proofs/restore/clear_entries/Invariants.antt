@@ -4,4 +4,4 @@ use Rattle.home_directory.proofs.restore.clear_entries.Given as goal
 
 -- the entries of the places that are left are still to be cleared
 abbrev pub invariant-places : goal.invariant-places
-invariant-places l = AreClearing l.initial.entries.items l.entries.items (drop l.place-index l.place-items)
+invariant-places l = AreClearing l.initial.entries l.entries (drop l.place-index l.place-items)
