@@ -1,13 +1,19 @@
 -- A message that is found by its number is in flight.
-use Rattle.std.proofs.Common.{◌≡◌, ◌∙◌, ℕ, ◌<◌, Bool, true, false, ◌||◌, List, [], ◌∷◌, length, refl, ap, subst, arith, if◌then◌else◌}
+use Rattle.std.proofs.Common.{◌≡◌, ◌∙◌, ℕ, ◌<◌, ◌≤◌, Bool, true, false, ◌||◌, List, [], ◌∷◌, length, refl, ap, sym, subst, arith}
+use Rattle.std.proofs.Common.{if◌then◌else◌}
 use Rattle.std.proofs.Common.{nat_eq, Some}
 use Rattle.std.specs.Prelude.{unwrap_or}
 use Rattle.std.proofs.lemmas.Bool.Decides.{nat_tests}
+use Rattle.sn_msg.specs.declared.Message.{Message}
+use Rattle.sn_msg.specs.declared.Body.{Body}
 use Rattle.sn_model.specs.Caches.{block_count}
-use Rattle.sn_model.specs.Fabric.{Fabric, Flight}
+use Rattle.sn_model.specs.Fabric.{Fabric, Flight, node_at}
 use Rattle.sn_model.specs.Net.{flight_of}
-use Rattle.fabric_coherence.specs.View.{net_seen, is_seen, is_for_all, message_seen}
+use Rattle.sn_coherence.specs.Block.{Message as Seen}
+use Rattle.sn_coherence.specs.Events.{Arrives}
+use Rattle.fabric_coherence.specs.View.{GhostState, block_seen, net_seen, is_seen, is_for_all, message_seen}
 use Rattle.fabric_coherence.specs.Steps.{Below, Within, node_in_body, IsShaped, IsInFlight}
+use Rattle.fabric_coherence.proofs.Receivers.{seen_as_sent}
 
 -- what is found is seen under its number, by each block that sees it
 found_step : (g f : Flight) (fs : List Flight) (id b : ℕ) → (if nat_eq g.message.id id then Some g else flight_of fs id) ≡ Some f →
@@ -72,3 +78,14 @@ found-for_all s id f b h e all =
     let i = is_found s.net.flights id f s.net.next_id (length s.nodes) e h.below h.within in
     ap (net_seen b s.net.flights) i.number
     ∙ found-seen s.net.flights id f b e (for_all (is_for_all f.message.body) (nat_eq f.message.block b) all)
+
+-- a message in flight whose receiver's interval has reached its tag has arrived, as its block sees it
+pub has_arrived : (s : Fabric) (t : GhostState) (m : Message) → IsInFlight s m → m.tag ≤ (node_at s m.to).now → (x : Body) → m.body ≡ x →
+    Arrives (block_seen s t m.block) m.id (message_seen m x).body
+has_arrived s t m flight reached x is =
+    let sees : net_seen m.block s.net.flights m.id ≡ message_seen m x = flight.seen ∙ ap (message_seen m) is in (
+      (λ p. (sees p).body),
+      subst (λ (y : Seen). y.tag ≤ (node_at s y.to).now) (sym sees)
+          (subst (λ n. (message_seen m x).tag ≤ (node_at s n).now) (sym (seen_as_sent m x).1)
+          (subst (λ n. n ≤ (node_at s m.to).now) (sym (seen_as_sent m x).2) reached)),
+    )

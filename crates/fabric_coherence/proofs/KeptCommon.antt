@@ -1,12 +1,18 @@
 -- What every part of the proof that events keep the sentences needs: the losses, what a block sees of an event of another one,
 -- and how the fabric goes on where each of its blocks does.
-use Rattle.std.proofs.Common.{◌≡◌, ◌≢◌, inl, ℕ, ◌<◌, Bool, true, false, List, [], ◌∷◌, length, refl, sym, subst, arith, nat_eq}
-use Rattle.std.proofs.Common.{if◌then◌else◌, Some}
+use Rattle.std.proofs.Common.{◌≡◌, ◌≢◌, inl, ℕ, ◌+◌, ◌<◌, Bool, true, false, List, [], ◌∷◌, length, refl, sym, subst, arith, nat_eq}
+use Rattle.std.proofs.Common.{nat_lt, if◌then◌else◌, Some}
 use Rattle.std.specs.Prelude.{⊤}
 use Rattle.std.proofs.lemmas.Bool.Decides.{nat_tests}
+use Rattle.sn_base.specs.declared.config.Config.{Config}
 use Rattle.sn_base.specs.declared.event.Answer.{Answer}
+use Rattle.sn_base.specs.declared.event.Answer.TheVariants.{LogFull, NetFull}
+use Rattle.sn_base.specs.declared.log.LogEntry.{LogEntry}
+use Rattle.sn_model.specs.declared.cache.Out.{Out}
 use Rattle.sn_model.specs.Caches.{block_count}
 use Rattle.sn_model.specs.Fabric.{Fabric, FabricStep, step_refused}
+use Rattle.sn_model.specs.Net.{net_limit}
+use Rattle.sn_model.specs.NetEvents.{fits_in}
 use Rattle.sn_coherence.specs.Block.{Block, NoLine, Nothing, Elsewhere, NoPut, PutElsewhere}
 use Rattle.sn_coherence.specs.OtherEvents.{lose, begin_miss_elsewhere, end_miss_elsewhere, begin_put_elsewhere, end_put_elsewhere}
 use Rattle.sn_coherence.specs.Events.{Event, ForwardWrite, Invalidate, PutGoes, DeliverReady, Lose, NumbersElsewhere, BeginMissElsewhere}
@@ -214,6 +220,14 @@ pub by_test : (s : Fabric) (t : GhostState) (test : Bool) (a b : FabricStep) →
     Moves s t (if test then a else b)
 by_test s t true a b first second = first refl
 by_test s t false a b first second = second refl
+
+-- a row is done, or nothing where the log or the net lacks the room
+pub fits_moves : (config : Config) (s : Fabric) (t : GhostState) → IsShaped s → (log : List LogEntry) (sends : List Out) (done : FabricStep) →
+    Moves s t done → Moves s t (fits_in config s log sends done)
+fits_moves config s t shape log sends done moves =
+    by_test s t (nat_lt config.log (length log)) (step_refused s LogFull) _ (λ e. as_it_is s t LogFull shape)
+    (λ e. by_test s t (nat_lt (net_limit + 1) (length s.net.flights + length sends)) (step_refused s NetFull) done
+    (λ f. as_it_is s t NetFull shape) (λ f. moves))
 
 -- what is kept, where the fabric goes on
 pub kept_on : (s : Fabric) (t : GhostState) (f : ℕ → Records → Records) (after : Fabric) (u : GhostState) → FabricInvariant s t → Goes s t f after u →

@@ -5,25 +5,24 @@ use Rattle.std.specs.Prelude.{⊤}
 use Rattle.std.proofs.lemmas.Bool.Decides.{nat_tests}
 use Rattle.sn_base.specs.declared.config.Config.{Config}
 use Rattle.sn_base.specs.declared.block.Write.{Write as Written}
-use Rattle.sn_base.specs.declared.event.Answer.TheVariants.{NotArrived, Held, NoMessage, NetFull, Validated}
-use Rattle.sn_msg.specs.declared.Body.{Body}
-use Rattle.sn_msg.specs.declared.Body.TheVariants as body
+use Rattle.sn_base.specs.declared.event.Answer.TheVariants.{NotArrived, Held, NoMessage, NetFull, HomeBusy, Validated}
+use Rattle.sn_model.specs.declared.rows.Receiver.TheVariants as receiver
 use Rattle.sn_model.specs.Fabric.{step_refused, Fabric, Flight, node_at}
 use Rattle.sn_model.specs.Net.{flight_of, is_there, is_full, sending}
 use Rattle.sn_model.specs.NetEvents.{delivers, delivers_flight, outcome_of}
 use Rattle.sn_model.specs.PointEvents.{step_of_advance, advances}
 use Rattle.sn_model.specs.FabricEvents.{FabricEvent, Access, Write, Evict, Edge, Hop, Deliver, Lose, Kill, Report, Advance, Recover}
 use Rattle.sn_model.specs.FabricEvents.{moved_by}
-use Rattle.sn_model.specs.Receivers.{comes_to_cache}
-use Rattle.sn_coherence.specs.Block.{is_to_home}
 use Rattle.sn_coherence.specs.Records.{Records}
-use Rattle.fabric_coherence.specs.View.{GhostState, message_seen}
+use Rattle.fabric_coherence.specs.View.{GhostState}
 use Rattle.fabric_coherence.specs.Steps.{IsInFlight}
 use Rattle.fabric_coherence.specs.Coherent.{FabricInvariant, Keeps, NothingUnfinished}
 use Rattle.fabric_coherence.specs.Events.{MayBe}
 use Rattle.fabric_coherence.specs.Recorded.{KeepsRecords, MayBeRecorded, noted_by, recorded_by}
 use Rattle.fabric_coherence.specs.Leads.{KeepsFrames, Goes, Moves}
 use Rattle.fabric_coherence.specs.Runs.{IsFabricRun, fabric_after}
+use Rattle.fabric_coherence.proofs.Receivers.{says_body}
+use Rattle.fabric_coherence.proofs.EachOutcome.{each_row}
 use Rattle.fabric_coherence.proofs.KeptCommon.{frames_stay, as_it_is, by_test, kept_on, recorded_on}
 use Rattle.fabric_coherence.proofs.KeptNet.{lost_moves, hopped_moves, killed_moves, rises_goes, ready_delivered_moves}
 use Rattle.fabric_coherence.proofs.KeptNet.{advance_delivered_moves}
@@ -37,7 +36,7 @@ use Rattle.fabric_coherence.proofs.Finished.{rises_leads, reported_finished}
 use Rattle.fabric_coherence.proofs.Retirements.{stored_kept}
 use Rattle.fabric_coherence.proofs.InFlight.{in_flight, is_found}
 
--- a message that is delivered, by its body
+-- a message that is delivered, by its row
 module _ (config : Config) (s : Fabric) (t : GhostState) (id : ℕ) (f : Flight) (kept : FabricInvariant s t) (found : flight_of s.net.flights id ≡ Some f) where
   flight : IsInFlight s f.message
   flight = in_flight s id f kept.shape found
@@ -45,44 +44,23 @@ module _ (config : Config) (s : Fabric) (t : GhostState) (id : ℕ) (f : Flight)
   reached : nat_lt (node_at s f.message.to).now f.message.tag ≡ false → f.message.tag ≤ (node_at s f.message.to).now
   reached h = grind (arith, nat_tests)
 
-  abbrev TakenMoves : Body → Type 0
-  TakenMoves x = Moves s t (delivers config s f.message (outcome_of s f.message x))
-
-  at_cache : (x : Body) → f.message.body ≡ x → comes_to_cache x ≡ true → nat_lt (node_at s f.message.to).now f.message.tag ≡ false →
-      TakenMoves x
-  at_cache x is to h =
-      cache_delivery_moves s t f.message kept flight (reached h) config
-      (is_found s.net.flights id f s.net.next_id (length s.nodes) found kept.shape.below kept.shape.within).names x is to
-
-  at_home : (x : Body) → f.message.body ≡ x → is_to_home (message_seen f.message x).body ≡ true →
-      nat_lt (node_at s f.message.to).now f.message.tag ≡ false → TakenMoves x
-  at_home x is to h = home_delivery_moves s t f.message kept flight (reached h) config x is to
-
-  taken_moves : (x : Body) → f.message.body ≡ x → nat_lt (node_at s f.message.to).now f.message.tag ≡ false → TakenMoves x
-  taken_moves body.GetS is h = at_home body.GetS is refl h
-  taken_moves body.GetM is h = at_home body.GetM is refl h
-  taken_moves body.PutReq is h = at_home body.PutReq is refl h
-  taken_moves (body.Unblock fixed) is h = at_home (body.Unblock fixed) is refl h
-  taken_moves (body.PutData content) is h = at_home (body.PutData content) is refl h
-  taken_moves (body.FwdGetS r) is h = at_cache (body.FwdGetS r) is refl h
-  taken_moves (body.FwdGetM r due) is h = at_cache (body.FwdGetM r due) is refl h
-  taken_moves (body.Inv r) is h = at_cache (body.Inv r) is refl h
-  taken_moves (body.DataS content) is h = at_cache (body.DataS content) is refl h
-  taken_moves (body.DataM content due) is h = at_cache (body.DataM content due) is refl h
-  taken_moves (body.DataE content) is h = at_cache (body.DataE content) is refl h
-  taken_moves (body.UpgOk due) is h = at_cache (body.UpgOk due) is refl h
-  taken_moves body.InvAck is h = at_cache body.InvAck is refl h
-  taken_moves body.PutGo is h = at_cache body.PutGo is refl h
-  taken_moves body.PutDone is h = at_cache body.PutDone is refl h
-  taken_moves (body.Ready k) is h = subst TakenMoves is (ready_delivered_moves s t kept config id f k found h is)
-  taken_moves (body.Advance k) is h = subst TakenMoves is (advance_delivered_moves s t kept config id f k found h is)
+  taken_moves : nat_lt (node_at s f.message.to).now f.message.tag ≡ false →
+      Moves s t (delivers config s f.message (outcome_of s f.message f.message.body))
+  taken_moves h =
+      each_row s f.message (λ outcome. Moves s t (delivers config s f.message outcome))
+      (cache_delivery_moves s t f.message kept flight (reached h) config
+      (is_found s.net.flights id f s.net.next_id (length s.nodes) found kept.shape.below kept.shape.within).names)
+      (home_delivery_moves s t f.message kept flight (reached h) config)
+      (as_it_is s t HomeBusy kept.shape)
+      (λ k is. ready_delivered_moves s t kept config id f k found h (says_body f.message.body (receiver.Controller k) is))
+      (λ k is. advance_delivered_moves s t kept config id f k found h (says_body f.message.body (receiver.Clock k) is))
 
   arrived_moves : (there held : Bool) → nat_lt (node_at s f.message.to).now f.message.tag ≡ held →
       Moves s t (if not there then step_refused s NotArrived else if held then step_refused s Held
       else delivers config s f.message (outcome_of s f.message f.message.body))
   arrived_moves false held h = as_it_is s t NotArrived kept.shape
   arrived_moves true true h = as_it_is s t Held kept.shape
-  arrived_moves true false h = taken_moves f.message.body refl h
+  arrived_moves true false h = taken_moves h
 
 delivery_moves : (config : Config) (s : Fabric) (t : GhostState) (id : ℕ) (found : Option Flight) → FabricInvariant s t →
     flight_of s.net.flights id ≡ found → Moves s t (delivers_flight config s found)

@@ -126,20 +126,18 @@ module _ (s : Fabric) (t : GhostState) (kept : FabricInvariant s t) where
 
   pub ready_delivered_moves : (config : Config) (id : ℕ) (f : Flight) (k : ℕ) → flight_of s.net.flights id ≡ Some f →
       nat_lt (node_at s f.message.to).now f.message.tag ≡ false → f.message.body ≡ Ready k →
-      Moves s t (delivers config s f.message (outcome_of s f.message f.message.body))
+      Moves s t (delivers config s f.message (outcome_of s f.message (Ready k)))
   ready_delivered_moves config id f k e held is =
-      subst (λ x. Moves s t (delivers config s f.message (outcome_of s f.message x))) (sym is)
-      (ready_moves config f.message k (λ o. found-for_all s id f o kept.shape e (rw is refl) ∙ ap (message_seen f.message) is)
-      (reached (node_at s f.message.to).now f.message.tag held))
+      ready_moves config f.message k (λ o. found-for_all s id f o kept.shape e (rw is refl) ∙ ap (message_seen f.message) is)
+      (reached (node_at s f.message.to).now f.message.tag held)
 
   pub advance_delivered_moves : (config : Config) (id : ℕ) (f : Flight) (k : ℕ) → flight_of s.net.flights id ≡ Some f →
       nat_lt (node_at s f.message.to).now f.message.tag ≡ false → f.message.body ≡ Advance k →
-      Moves s t (delivers config s f.message (outcome_of s f.message f.message.body))
+      Moves s t (delivers config s f.message (outcome_of s f.message (Advance k)))
   advance_delivered_moves config id f k e held is =
-      subst (λ x. Moves s t (delivers config s f.message (outcome_of s f.message x))) (sym is)
-      (advance_moves config f.message k (in_flight s id f kept.shape e).to
+      advance_moves config f.message k (in_flight s id f kept.shape e).to
       (λ o. found-for_all s id f o kept.shape e (rw is refl) ∙ ap (message_seen f.message) is)
-      (reached (node_at s f.message.to).now f.message.tag held))
+      (reached (node_at s f.message.to).now f.message.tag held)
 
   -- the recovery point rises, where it does so for each block
   abbrev rises : FabricStep

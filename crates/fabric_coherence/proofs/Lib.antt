@@ -3,6 +3,7 @@ mod NetSends
 mod Rising
 mod NetShape
 mod NetEvents
+pub mod Receivers
 pub mod InFlight
 mod CacheSeen
 mod CacheSends
@@ -14,6 +15,7 @@ mod CacheConditions
 mod HomeSeen
 mod HomeRows
 mod HomeElsewhere
+mod HomeConditions
 mod HomeOutcomes
 mod NodeSeen
 mod NodeAccess

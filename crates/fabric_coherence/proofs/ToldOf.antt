@@ -1,31 +1,27 @@
 -- What an event tells is of the fabric: its node and block are there, and its point isn't above the recovery point.
 use Rattle.std.proofs.Common.{◌≡◌, ◌∙◌, ℕ, ◌+◌, ◌-◌, ◌<◌, ◌≤◌, Bool, true, false, not, ◌&&◌, length, refl, ap, sym, subst, if◌then◌else◌}
-use Rattle.std.proofs.Common.{nat_eq, nat_lt, nat_le, Option, Some, None}
+use Rattle.std.proofs.Common.{nat_eq, nat_lt, nat_le, List, Option, Some, None}
 use Rattle.sn_base.specs.declared.config.Config.{Config}
 use Rattle.sn_base.specs.declared.event.Answer.TheVariants.{Retired, Waits, LogFull, NetFull, NeedsEvict, PutOpen, MissOpen}
 use Rattle.sn_base.specs.declared.event.Answer.TheVariants.{CheckpointsFull, Arrived, AlreadyDead, NotArrived, Held}
+use Rattle.sn_base.specs.declared.log.LogEntry.{LogEntry}
 use Rattle.sn_msg.specs.declared.Message.{Message}
-use Rattle.sn_msg.specs.declared.Body.{Body}
-use Rattle.sn_msg.specs.declared.Body.TheVariants.{GetS, GetM, FwdGetS, FwdGetM, Inv, DataS, DataM, DataE, UpgOk, InvAck, Unblock, PutReq}
-use Rattle.sn_msg.specs.declared.Body.TheVariants.{PutGo, PutData, PutDone, Ready, Advance}
+use Rattle.sn_msg.specs.declared.Body.TheVariants.{Advance}
 use Rattle.sn_model.specs.declared.cache.LineState.{LineState}
 use Rattle.sn_model.specs.declared.cache.LineState.TheVariants as state
-use Rattle.sn_model.specs.declared.cache.LineState.TheVariants.{Shared, Modified, Exclusive}
 use Rattle.sn_model.specs.declared.cache.Need.{Need}
-use Rattle.sn_model.specs.declared.rows.HomeMessage.{HomeMessage}
-use Rattle.sn_model.specs.declared.rows.HomeMessage.TheVariants as asked
-use Rattle.sn_model.specs.Caches.{block_count, line_of, with_line, is_present, misses_on, puts_on, frames_taken}
-use Rattle.sn_model.specs.CacheRows.{Logged, CacheReply, fixed_at, miss_with_ack, taken_over, forward_read, forward_write, invalidate}
-use Rattle.sn_model.specs.CacheRows.{data_shared, data_modified, data_exclusive, upgrade_granted, acknowledge, put_go, put_done}
-use Rattle.sn_model.specs.HomeRows.{HomeReply, home_reply, home_row}
-use Rattle.sn_model.specs.Homes.{Transaction}
+use Rattle.sn_model.specs.declared.cache.Out.{Out}
+use Rattle.sn_model.specs.declared.rows.CacheRow.{CacheRow}
+use Rattle.sn_model.specs.declared.rows.Receiver.TheVariants as receiver
+use Rattle.sn_model.specs.Caches.{block_count, line_of, is_present, misses_on, puts_on, frames_taken}
+use Rattle.sn_model.specs.HomeRows.{HomeReply}
 use Rattle.sn_model.specs.Access.{step_of_miss, misses, has_miss, serves, lacks_room, accesses, step_of_access}
-use Rattle.sn_model.specs.Fabric.{Fabric, Flight, FabricStep, node_at, home_of, home_node, step_refused, step_with_answer}
+use Rattle.sn_model.specs.Fabric.{Fabric, Flight, FabricStep, node_at, home_node, step_refused, step_with_answer}
 use Rattle.sn_model.specs.FabricEvents.{FabricEvent, Access, Write, Evict, Edge, Hop, Deliver, Lose, Kill, Report, Advance as Advances}
 use Rattle.sn_model.specs.FabricEvents.{Recover, moved_by}
 use Rattle.sn_model.specs.Net.{net_limit, routes_of, flight_of, is_there, is_full, next_switch}
 use Rattle.sn_model.specs.NodeEvents.{evicts, begins_put, has_put, checkpoint_limit}
-use Rattle.sn_model.specs.NetEvents.{AtCache, AtHome, logged_at, kept_at, unless_busy, outcome_of}
+use Rattle.sn_model.specs.NetEvents.{AtCache, AtHome, logged_at, fits_in, outcome_of}
 use Rattle.sn_model.specs.NetEvents.{delivers, delivers_flight, hops, hops_to, loses}
 use Rattle.sn_model.specs.PointEvents.{recovers, living_switches}
 use Rattle.route_plan.specs.Distances.{is_dead}
@@ -33,11 +29,14 @@ use Rattle.route_plan.specs.Routes.{first_cut_off}
 use Rattle.sn_coherence.specs.Block as block
 use Rattle.fabric_coherence.specs.View.{GhostState, net_seen, message_seen}
 use Rattle.fabric_coherence.specs.Steps.{IsInFlight}
-use Rattle.fabric_coherence.specs.CacheEvents.{told_of}
+use Rattle.fabric_coherence.specs.CacheEvents.{told_of, left_at_cache}
 use Rattle.fabric_coherence.specs.Coherent.{FabricInvariant, Keeps}
 use Rattle.fabric_coherence.specs.Events.{MayBe}
+use Rattle.fabric_coherence.specs.HomeEvents.{left_at_home, row_at_home}
 use Rattle.fabric_coherence.specs.Recorded.{IsOfFabric}
-use Rattle.fabric_coherence.proofs.CacheOutcomes.{completed_or_waiting_loses}
+use Rattle.fabric_coherence.proofs.Receivers.{says_body}
+use Rattle.fabric_coherence.proofs.CacheOutcomes.{loses_copy, row_loses}
+use Rattle.fabric_coherence.proofs.EachOutcome.{each_row}
 use Rattle.fabric_coherence.proofs.InFlight.{in_flight}
 
 abbrev Tells : Fabric → FabricStep → Type 0
@@ -86,34 +85,23 @@ module _ (config : Config) (s : Fabric) (t : GhostState) (id : ℕ) (f : Flight)
   flight : IsInFlight s m
   flight = in_flight s id f kept.shape found
 
-  abbrev at : Logged
-  at = logged_at s m.to
-
-  abbrev home : ℕ
-  home = home_node s m.block
-
-  at_cache : (reply : CacheReply) → IsOfFabric s (told_of m.to reply.lost) → Tells s (delivers config s m (AtCache reply))
-  at_cache reply told = by_test s (nat_lt config.log (length reply.after.log)) (step_refused s LogFull) _ tt
-      (by_test s (nat_lt (net_limit + 1) (length s.net.flights + length reply.sends)) (step_refused s NetFull) _ tt told)
-
-  at_home : (reply : HomeReply) → Tells s (delivers config s m (AtHome reply))
-  at_home reply = by_test s (nat_lt config.log (length reply.after.log)) (step_refused s LogFull) _ tt
-      (by_test s (nat_lt (net_limit + 1) (length s.net.flights + length reply.sends)) (step_refused s NetFull) _ tt tt)
-
-  -- what a row of the home leaves
-  abbrev leaves : HomeMessage → HomeReply
-  leaves message = home_reply (kept_at s m.to m.block) m.block (node_at s m.to).now m.tag m.from (home_row (home_of s m.block) m.from message)
-
-  request : (open_one : Option Transaction) (reply : HomeReply) → Tells s (delivers config s m (unless_busy open_one reply))
-  request None reply = at_home reply
-  request (Some transaction) reply = tt
+  done : (log : List LogEntry) (sends : List Out) (step : FabricStep) → Tells s step → Tells s (fits_in config s log sends step)
+  done log sends step told = by_test s (nat_lt config.log (length log)) (step_refused s LogFull) _ tt
+      (by_test s (nat_lt (net_limit + 1) (length s.net.flights + length sends)) (step_refused s NetFull) step tt told)
 
   lost_here : (c : Bool) → IsOfFabric s (told_of m.to (if c then Some m.block else None))
   lost_here true = (flight.to, flight.block)
   lost_here false = tt
 
-  none_lost : (reply : CacheReply) → reply.lost ≡ None → IsOfFabric s (told_of m.to reply.lost)
-  none_lost reply e = subst (λ lost. IsOfFabric s (told_of m.to lost)) (sym e) tt
+  at_cache : (taken : CacheRow) → Tells s (delivers config s m (AtCache (left_at_cache s m taken)))
+  at_cache taken =
+      done (left_at_cache s m taken).after.log (left_at_cache s m taken).sends _
+      (subst (λ lost. IsOfFabric s (told_of m.to lost))
+      (sym (row_loses (logged_at s m.to) (home_node s m.block) m.block (node_at s m.to).now m.tag taken))
+      (lost_here (loses_copy (logged_at s m.to) m.block taken)))
+
+  at_home : (reply : HomeReply) → Tells s (delivers config s m (AtHome reply))
+  at_home reply = done reply.after.log reply.sends _ tt
 
   advance_low : (k : ℕ) → m.body ≡ Advance k → k ≤ s.point
   advance_low k is =
@@ -123,38 +111,12 @@ module _ (config : Config) (s : Fabric) (t : GhostState) (id : ℕ) (f : Flight)
       seen : net_seen m.block s.net.flights m.id ≡ message_seen m (Advance k)
       seen = flight.seen ∙ ap (message_seen m) is
 
-  by_body : (x : Body) → m.body ≡ x → Tells s (delivers config s m (outcome_of s m x))
-  by_body GetS is = request (home_of s m.block).transaction (leaves asked.GetS)
-  by_body GetM is = request (home_of s m.block).transaction (leaves asked.GetM)
-  by_body PutReq is = request (home_of s m.block).transaction (leaves asked.PutReq)
-  by_body (Unblock fixed) is = at_home (leaves (asked.Unblock fixed))
-  by_body (PutData content) is = at_home (leaves (asked.PutData content))
-  by_body (FwdGetS r) is = at_cache (forward_read at m.block r) tt
-  by_body (FwdGetM r due) is = at_cache (forward_write at m.block (node_at s m.to).now r due) (lost_here true)
-  by_body (Inv r) is = at_cache (invalidate at m.block r) (lost_here (is_present (line_of at.cache m.block).state))
-  by_body (DataS content) is = at_cache (data_shared at home m.block m.tag content)
-      (none_lost (data_shared at home m.block m.tag content)
-      (completed_or_waiting_loses (record at { cache = with_line at.cache m.block Shared content }) home (fixed_at at.cache.miss m.tag 0)))
-  by_body (DataM content due) is = at_cache (data_modified at home m.block m.tag content due)
-      (none_lost (data_modified at home m.block m.tag content due)
-      (completed_or_waiting_loses (taken_over at m.block m.tag Modified content) home (fixed_at at.cache.miss m.tag due)))
-  by_body (DataE content) is = at_cache (data_exclusive at home m.block m.tag content)
-      (none_lost (data_exclusive at home m.block m.tag content)
-      (completed_or_waiting_loses (taken_over at m.block m.tag Exclusive content) home (fixed_at at.cache.miss m.tag 0)))
-  by_body (UpgOk due) is =
-      at_cache (upgrade_granted at home m.tag due)
-      (none_lost (upgrade_granted at home m.tag due) (completed_or_waiting_loses at home (fixed_at at.cache.miss m.tag due)))
-  by_body InvAck is =
-      at_cache (acknowledge at home) (none_lost (acknowledge at home) (completed_or_waiting_loses at home (miss_with_ack at.cache.miss)))
-  by_body PutGo is = at_cache (put_go at home m.block (node_at s m.to).now) (lost_here true)
-  by_body PutDone is = at_cache (put_done at) tt
-  by_body (Ready k) is = flight.from
-  by_body (Advance k) is = (flight.to, advance_low k is)
-
   tells_found : Tells s (delivers_flight config s (Some f))
   tells_found = by_test s (not (is_there f)) (step_refused s NotArrived) _ tt
       (by_test s (nat_lt (node_at s m.to).now m.tag) (step_refused s Held) (delivers config s m (outcome_of s m m.body)) tt
-      (by_body m.body refl))
+      (each_row s m (λ outcome. Tells s (delivers config s m outcome)) (λ taken is. at_cache taken)
+      (λ message is served. at_home (left_at_home s m (row_at_home s m message))) tt (λ k is. flight.from)
+      (λ k is. (flight.to, advance_low k (says_body m.body (receiver.Clock k) is)))))
 
 tells_flight : (config : Config) (s : Fabric) (t : GhostState) (id : ℕ) (found : Option Flight) → FabricInvariant s t →
     flight_of s.net.flights id ≡ found → Tells s (delivers_flight config s found)

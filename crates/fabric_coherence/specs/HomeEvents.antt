@@ -1,37 +1,44 @@
--- Which event of the coherence theorem a message is that is served at its home.
-use Rattle.std.specs.Prelude.{ℕ, nat_eq, if◌then◌else◌}
+-- Which event of the coherence theorem a row of a home is.
+use Rattle.std.specs.Prelude.{◌≡◌, ℕ, true, None}
 use Rattle.sn_msg.specs.declared.Message.{Message}
-use Rattle.sn_msg.specs.declared.Body.{Body}
-use Rattle.sn_msg.specs.declared.Body.TheVariants.{GetS, GetM, Unblock, PutReq, PutData}
-use Rattle.sn_model.specs.Homes.{Holder, Itself, OfCache, is_owner}
-use Rattle.sn_model.specs.HomeRows.{count_others}
-use Rattle.sn_model.specs.Fabric.{Fabric, home_of}
+use Rattle.sn_model.specs.declared.rows.HomeMessage.{HomeMessage}
+use Rattle.sn_model.specs.declared.rows.HomeRow.{HomeRow}
+use Rattle.sn_model.specs.declared.rows.HomeRow.TheVariants as row
+use Rattle.sn_model.specs.HomeRows.{HomeReply, count_others, home_reply, home_row, is_request}
+use Rattle.sn_model.specs.Fabric.{Fabric, node_at, home_of}
+use Rattle.sn_model.specs.NetEvents.{kept_at}
 use Rattle.sn_coherence.specs.Events.{Event, ReadAtHome, ReadAtOwner, Takes, MovesOwnership, Upgrades, Unblocks, PutBegins, PutIsStale}
-use Rattle.sn_coherence.specs.Events.{PutDataComes, GrantExclusive, Lose}
+use Rattle.sn_coherence.specs.Events.{PutDataComes, GrantExclusive}
 use Rattle.fabric_coherence.specs.HomeSeen.{other_targets}
 
--- how many sharers there are beside the sender
+-- the sharers beside the sender, in order, and how many they are
+abbrev pub targets_of : Fabric → Message → ℕ → ℕ
+targets_of s m = other_targets (home_of s m.block).sharers m.from
+
 abbrev pub other_count : Fabric → Message → ℕ
 other_count s m = count_others (home_of s m.block).sharers m.from
 
-abbrev pub read_event : Fabric → Message → Holder → Event
-read_event s m (Itself content) = if nat_eq (other_count s m) 0 then GrantExclusive m.id else ReadAtHome m.id
-read_event s m (OfCache owner) = ReadAtOwner m.id
+-- the event that a row is, of a message
+abbrev pub home_event : Fabric → Message → HomeRow → Event
+home_event s m (row.ReadAtHome content) = ReadAtHome m.id
+home_event s m (row.ReadAtOwner owner) = ReadAtOwner m.id
+home_event s m (row.Take content) = Takes m.id (targets_of s m) (other_count s m)
+home_event s m (row.MoveOwnership owner) = MovesOwnership m.id (targets_of s m) (other_count s m)
+home_event s m row.Upgrade = Upgrades m.id (targets_of s m) (other_count s m)
+home_event s m (row.Unblock fixed) = Unblocks m.id
+home_event s m row.PutBegins = PutBegins m.id
+home_event s m row.PutIsStale = PutIsStale m.id
+home_event s m (row.PutData content) = PutDataComes m.id
+home_event s m (row.GrantExclusive content) = GrantExclusive m.id
 
-abbrev pub write_event : Fabric → Message → Holder → Event
-write_event s m (Itself content) = Takes m.id (other_targets (home_of s m.block).sharers m.from) (other_count s m)
-write_event s m (OfCache owner) =
-    if nat_eq owner m.from then Upgrades m.id (other_targets (home_of s m.block).sharers m.from) (other_count s m)
-    else MovesOwnership m.id (other_targets (home_of s m.block).sharers m.from) (other_count s m)
+-- what a row leaves of the machine at the receiver of a message
+abbrev pub left_at_home : Fabric → Message → HomeRow → HomeReply
+left_at_home s m taken = home_reply (kept_at s m.to m.block) m.block (node_at s m.to).now m.tag m.from taken
 
-abbrev pub put_event : Fabric → Message → Holder → Event
-put_event s m holder = if is_owner holder m.from then PutBegins m.id else PutIsStale m.id
+-- the row of what comes to a home, by the entry of its block
+abbrev pub row_at_home : Fabric → Message → HomeMessage → HomeRow
+row_at_home s m message = home_row (home_of s m.block) m.from message
 
--- of any other message this says nothing
-abbrev pub home_event : Fabric → Message → Body → Event
-home_event s m GetS = read_event s m (home_of s m.block).holder
-home_event s m GetM = write_event s m (home_of s m.block).holder
-home_event s m (Unblock fixed) = Unblocks m.id
-home_event s m PutReq = put_event s m (home_of s m.block).holder
-home_event s m (PutData content) = PutDataComes m.id
-home_event s m _ = Lose m.id
+-- a request is served where no transaction is open
+abbrev pub IsServed : Fabric → Message → HomeMessage → Type 0
+IsServed s m message = is_request message ≡ true → (home_of s m.block).transaction ≡ None

@@ -1,24 +1,34 @@
 //! The theorems on the fabric alone.
-ghost use Rattle.std.specs.Prelude.{◌≡◌, ℕ, ◌<◌, ◌≤◌, Bool, true, false, List, length};
+ghost use Rattle.std.specs.Prelude.{◌≡◌, ℕ, ◌<◌, ◌≤◌, Bool, true, false, List, length, Some};
 ghost use Rattle.sn_base.specs.Image.{ImageData};
 ghost use Rattle.sn_base.specs.declared.config.Config.{Config};
 ghost use Rattle.sn_base.specs.declared.event.Answer.TheVariants.{Retired};
 ghost use Rattle.sn_model.specs.declared.cache.Need.{Need};
+ghost use Rattle.sn_model.specs.declared.rows.CacheRow.{CacheRow};
+ghost use Rattle.sn_model.specs.declared.rows.HomeMessage.{HomeMessage};
+ghost use Rattle.sn_model.specs.declared.rows.Receiver.TheVariants.{Cache, Home};
 ghost use Rattle.sn_model.specs.Access.{step_of_access, serves};
 ghost use Rattle.sn_model.specs.Caches.{block_count, line_of};
 ghost use Rattle.sn_model.specs.Cuts.{is_unfinished};
-ghost use Rattle.sn_model.specs.Fabric.{Fabric, node_at, first_fabric};
+ghost use Rattle.sn_model.specs.Fabric.{Fabric, Flight, node_at, first_fabric};
 ghost use Rattle.sn_model.specs.FabricEvents.{FabricEvent, moved_by};
+ghost use Rattle.sn_model.specs.Net.{flight_of};
+ghost use Rattle.sn_model.specs.Receivers.{receiver_of};
 ghost use Rattle.sn_saved.specs.Resumed.{fabric_resumed};
 ghost use Rattle.sn_saved.specs.Saved.{AreInside};
+ghost use Rattle.sn_coherence.specs.Events.{Allows, after};
+ghost use Rattle.fabric_coherence.specs.CacheEvents.{cache_event, left_at_cache};
+ghost use Rattle.fabric_coherence.specs.CacheSeen.{IsOwnRow};
 ghost use Rattle.fabric_coherence.specs.Coherent.{FabricInvariant, Keeps, IsInTime};
 ghost use Rattle.fabric_coherence.specs.Events.{MayBe, CanUse};
 ghost use Rattle.fabric_coherence.specs.Holders.{IsCoherent};
+ghost use Rattle.fabric_coherence.specs.HomeEvents.{IsServed, home_event, left_at_home, row_at_home};
+ghost use Rattle.fabric_coherence.specs.HomeSeen.{IsHomeRow};
 ghost use Rattle.fabric_coherence.specs.Leads.{KeepsFrames};
 ghost use Rattle.fabric_coherence.specs.Recorded.{IsOfFabric};
 ghost use Rattle.fabric_coherence.specs.Runs.{IsFabricRun, fabric_after};
 ghost use Rattle.fabric_coherence.specs.Start.{resumed_beside};
-ghost use Rattle.fabric_coherence.specs.View.{GhostState};
+ghost use Rattle.fabric_coherence.specs.View.{GhostState, block_seen};
 
 /// At the start all sentences hold of every block.
 pub fn start_is_kept()
@@ -73,6 +83,22 @@ pub fn what_is_served_can_be_used()
     ensures { (config : Config) (s : Fabric) (n block : ℕ) (need : Need) → n < length s.nodes → block < block_count
         → (step_of_access config s n block need).answer ≡ Retired
         → CanUse s n block × (serves need (line_of (node_at s n).cache block).state ≡ true) }
+{}
+
+/// What a row leaves of the machine's lists, for a message that is delivered, is what that row's event leaves of the message's block, as the
+/// block sees it, before it loses what was lost at once in a dead switch; and the event may happen there.
+pub fn each_row_is_its_event()
+    ensures cache { (s : Fabric) (t : GhostState) (id : ℕ) (f : Flight) (taken : CacheRow) → FabricInvariant s t
+        → flight_of s.net.flights id ≡ Some f → f.message.tag ≤ (node_at s f.message.to).now → receiver_of f.message.body ≡ Cache taken
+        → IsOwnRow s t f.message (left_at_cache s f.message taken)
+        (after (length s.nodes) (block_seen s t f.message.block) (cache_event f.message.id taken))
+        × Allows (length s.nodes) (block_seen s t f.message.block) (cache_event f.message.id taken) }
+    ensures home { (s : Fabric) (t : GhostState) (id : ℕ) (f : Flight) (message : HomeMessage) → FabricInvariant s t
+        → flight_of s.net.flights id ≡ Some f → f.message.tag ≤ (node_at s f.message.to).now → receiver_of f.message.body ≡ Home message
+        → IsServed s f.message message
+        → IsHomeRow s t f.message (left_at_home s f.message (row_at_home s f.message message))
+        (after (length s.nodes) (block_seen s t f.message.block) (home_event s f.message (row_at_home s f.message message)))
+        × Allows (length s.nodes) (block_seen s t f.message.block) (home_event s f.message (row_at_home s f.message message)) }
 {}
 
 /// So whatever is accessed, delivered, lost, killed, evicted, checkpointed or recovered, in whatever order, the fabric is

@@ -17,9 +17,9 @@ mod met;
 mod records;
 
 pub use laws::{
-    each_event_keeps, each_event_keeps_frames, every_run_is_coherent, finished_below_the_point,
-    nodes_are_in_time, nodes_stay, resumed_is_kept, start_is_kept, what_is_kept_is_coherent,
-    what_is_served_can_be_used, what_is_told_is_of_the_fabric,
+    each_event_keeps, each_event_keeps_frames, each_row_is_its_event, every_run_is_coherent,
+    finished_below_the_point, nodes_are_in_time, nodes_stay, resumed_is_kept, start_is_kept,
+    what_is_kept_is_coherent, what_is_served_can_be_used, what_is_told_is_of_the_fabric,
 };
 pub use met::deliveries_meet_their_rows;
 pub use records::{
