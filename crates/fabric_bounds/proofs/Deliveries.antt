@@ -1,35 +1,34 @@
 -- A delivery: what it makes of the receiver, of the network and of the numbers.
-use Rattle.std.proofs.Common.{◌≡◌, ℕ, ◌+◌, ◌≤◌, true, false, not, length, refl, sym, subst, arith, nat_lt, nat_le, Option, Some, None}
+use Rattle.std.proofs.Common.{◌≡◌, ℕ, ◌+◌, ◌≤◌, false, not, length, refl, sym, subst, arith, nat_lt, nat_le, Option, Some, None}
 use Rattle.std.proofs.lemmas.Bool.Decides.{nat_tests}
 use Rattle.sn_base.specs.declared.config.Config.{Config}
 use Rattle.sn_base.specs.declared.event.Answer.TheVariants.{LogFull, NetFull, HomeBusy, Delivered, NoMessage, NotArrived, Held}
 use Rattle.sn_base.specs.declared.log.LogEntry.{LogEntry}
-use Rattle.sn_msg.specs.declared.Body.{Body}
-use Rattle.sn_msg.specs.declared.Body.TheVariants.{GetS, GetM, FwdGetS, FwdGetM, Inv, DataS, DataM, DataE, UpgOk, InvAck, Unblock, PutReq}
-use Rattle.sn_msg.specs.declared.Body.TheVariants.{PutGo, PutData, PutDone, Ready, Advance}
-use Rattle.sn_model.specs.declared.cache.Need.TheVariants as need
+use Rattle.sn_msg.specs.declared.Body.TheVariants.{Ready, Advance}
 use Rattle.sn_model.specs.declared.net.News.TheVariants as told
-use Rattle.sn_model.specs.declared.rows.HomeMessage.{HomeMessage}
-use Rattle.sn_model.specs.declared.rows.HomeMessage.TheVariants as asked
-use Rattle.sn_model.specs.CacheRows.{Logged, CacheReply, MeetsRow}
-use Rattle.sn_model.specs.HomeRows.{HomeReply, home_reply, home_row}
-use Rattle.sn_model.specs.Homes.{Transaction}
+use Rattle.sn_model.specs.declared.rows.CacheRow.{CacheRow}
+use Rattle.sn_model.specs.declared.rows.HomeRow.{HomeRow}
+use Rattle.sn_model.specs.declared.rows.Receiver.TheVariants as receiver
+use Rattle.sn_model.specs.CacheRows.{CacheReply}
+use Rattle.sn_model.specs.HomeRows.{HomeReply}
 use Rattle.sn_model.specs.Fabric.{Fabric, Flight, node_at, home_of, home_node, with_node, with_net, step_refused}
 use Rattle.sn_model.specs.Net.{net_limit, flight_of, without_flight, is_there}
-use Rattle.sn_model.specs.NetEvents.{AtCache, AtHome, logged_at, kept_at, unless_busy, outcome_of, node_after, home_after, node_after_news}
-use Rattle.sn_model.specs.NetEvents.{copy_lost, delivers, delivers_flight}
-use Rattle.sn_model.specs.Receivers.{comes_to_cache}
+use Rattle.sn_model.specs.NetEvents.{AtCache, AtHome, logged_at, kept_at, outcome_of, node_after, home_after, node_after_news, copy_lost}
+use Rattle.sn_model.specs.NetEvents.{delivers, delivers_flight}
+use Rattle.sn_model.specs.Receivers.{receiver_of}
 use Rattle.fabric_coherence.specs.View.{GhostState}
 use Rattle.fabric_coherence.specs.Steps.{IsInFlight, after_cache, after_home}
 use Rattle.fabric_coherence.specs.Coherent.{FabricInvariant}
 use Rattle.fabric_coherence.proofs.InFlight.{in_flight, is_found}
-use Rattle.fabric_coherence.proofs.RowsMet.{meets_cache}
+use Rattle.fabric_coherence.specs.CacheEvents.{left_at_cache}
+use Rattle.fabric_coherence.specs.HomeEvents.{left_at_home, row_at_home}
+use Rattle.fabric_coherence.proofs.EachOutcome.{each_row}
+use Rattle.fabric_coherence.proofs.Receivers.{says_body}
+use Rattle.fabric_coherence.proofs.RowsMet.{cache_row}
 use Rattle.fabric_bounds.specs.Counts.{most_sent}
 use Rattle.fabric_bounds.proofs.Lists.{shorter, taken_out}
 use Rattle.fabric_bounds.proofs.Steps.{IsStep, fewer_fits, node_stays, one_steps, quiet_step, sending_step, same_step, by_test}
-use Rattle.fabric_bounds.proofs.Rows.{IsSmall, awaited_takes, forward_read_small, forward_write_small, invalidate_small, put_go_small}
-use Rattle.fabric_bounds.proofs.Rows.{put_done_small, data_shared_small, data_modified_small, data_exclusive_small, upgrade_granted_small}
-use Rattle.fabric_bounds.proofs.Rows.{acknowledge_small}
+use Rattle.fabric_bounds.proofs.Rows.{IsSmall, row_small}
 use Rattle.fabric_bounds.proofs.Replies.{row_few}
 
 pub not_over : (limit k : ℕ) → nat_lt limit k ≡ false → k ≤ limit
@@ -41,28 +40,15 @@ has_room left now sends e l = grind (arith, nat_tests)
 one_is_few : (k : ℕ) → k ≤ 1 → k ≤ most_sent
 one_is_few k l = omega arith
 
--- the condition of a row of the cache
-pub meets_row : (s : Fabric) (t : GhostState) (id : ℕ) (f : Flight) → FabricInvariant s t → flight_of s.net.flights id ≡ Some f → (x : Body) →
-    f.message.body ≡ x → comes_to_cache x ≡ true → MeetsRow (logged_at s f.message.to) f.message.block x
-meets_row s t id f kept found x is c =
-    subst (MeetsRow (logged_at s f.message.to) f.message.block) is
-    (meets_cache s t f.message (in_flight s id f kept.shape found) kept (subst (λ y. comes_to_cache y ≡ true) (sym is) c)).0
-
 module _ (config : Config) (s : Fabric) (t : GhostState) (id : ℕ) (f : Flight) (kept : FabricInvariant s t) (found : flight_of s.net.flights id ≡ Some f) where
   flight : IsInFlight s f.message
   flight = in_flight s id f kept.shape found
-
-  meets : (x : Body) → f.message.body ≡ x → comes_to_cache x ≡ true → MeetsRow (logged_at s f.message.to) f.message.block x
-  meets x is c = meets_row s t id f kept found x is c
 
   by_number : f.message.id ≡ id
   by_number = (is_found s.net.flights id f s.net.next_id (length s.nodes) found kept.shape.below kept.shape.within).number
 
   one_less : length (without_flight s.net f.message.id).flights + 1 ≤ length s.net.flights
   one_less = taken_out s.net.flights f (subst (λ i. flight_of s.net.flights i ≡ Some f) (sym by_number) found)
-
-  abbrev at : Logged
-  at = logged_at s f.message.to
 
   -- a row that is done, at a cache and at a home
   module _ (reply : CacheReply) (small : IsSmall reply (node_at s f.message.to).cache) where
@@ -103,10 +89,6 @@ module _ (config : Config) (s : Fabric) (t : GhostState) (id : ℕ) (f : Flight)
         (after_home s f.message reply) (λ e. same_step config s NetFull)
         (λ room. home_done (not_over config.log (length reply.after.log) fits) room))
 
-    request_step : (open_one : Option Transaction) → IsStep config s (delivers config s f.message (unless_busy open_one reply))
-    request_step None = home_step
-    request_step (Some transaction) = same_step config s HomeBusy
-
   -- Ready and Advance
   ready_step : (k : ℕ) → IsStep config s (delivers config s f.message (outcome_of s f.message (Ready k)))
   ready_step k =
@@ -128,47 +110,26 @@ module _ (config : Config) (s : Fabric) (t : GhostState) (id : ℕ) (f : Flight)
   sixteen : length (home_of s f.message.block).sharers ≡ 16
   sixteen = kept.shape.sharers f.message.block flight.block
 
-  -- what a row of the home leaves
-  abbrev leaves : HomeMessage → HomeReply
-  leaves message =
-      home_reply (kept_at s f.message.to f.message.block) f.message.block (node_at s f.message.to).now f.message.tag f.message.from
-      (home_row (home_of s f.message.block) f.message.from message)
+  -- by its row
+  cache_row_step : (taken : CacheRow) → receiver_of f.message.body ≡ receiver.Cache taken →
+      IsStep config s (delivers config s f.message (AtCache (left_at_cache s f.message taken)))
+  cache_row_step taken is =
+      cache_step (left_at_cache s f.message taken)
+      (row_small (logged_at s f.message.to) (home_node s f.message.block) f.message.block (node_at s f.message.to).now f.message.tag taken
+      (cache_row s t f.message flight kept taken (says_body f.message.body (receiver.Cache taken) is)))
 
-  sends_few : (message : HomeMessage) → length (leaves message).sends ≤ most_sent
-  sends_few message =
-      row_few (kept_at s f.message.to f.message.block) sixteen f.message.from f.message.block (node_at s f.message.to).now f.message.tag
-      (home_row (home_of s f.message.block) f.message.from message)
-
-  body_step : (x : Body) → f.message.body ≡ x → IsStep config s (delivers config s f.message (outcome_of s f.message x))
-  body_step GetS is = request_step (leaves asked.GetS) (sends_few asked.GetS) (home_of s f.message.block).transaction
-  body_step GetM is = request_step (leaves asked.GetM) (sends_few asked.GetM) (home_of s f.message.block).transaction
-  body_step PutReq is = request_step (leaves asked.PutReq) (sends_few asked.PutReq) (home_of s f.message.block).transaction
-  body_step (Unblock fixed) is = home_step (leaves (asked.Unblock fixed)) (sends_few (asked.Unblock fixed))
-  body_step (PutData content) is = home_step (leaves (asked.PutData content)) (sends_few (asked.PutData content))
-  body_step (FwdGetS r) is = cache_step _ (forward_read_small at f.message.block r (meets (FwdGetS r) is refl))
-  body_step (FwdGetM r due) is = cache_step _ (forward_write_small at f.message.block (node_at s f.message.to).now r due)
-  body_step (Inv r) is = cache_step _ (invalidate_small at f.message.block r)
-  body_step (DataS content) is =
-      cache_step _ (data_shared_small at (home_node s f.message.block) f.message.block f.message.tag content
-      (awaited_takes at.cache f.message.block need.Read (meets (DataS content) is refl).0))
-  body_step (DataM content due) is =
-      cache_step _ (data_modified_small at (home_node s f.message.block) f.message.block f.message.tag content due
-      (awaited_takes at.cache f.message.block need.Write (meets (DataM content due) is refl).0))
-  body_step (DataE content) is =
-      cache_step _ (data_exclusive_small at (home_node s f.message.block) f.message.block f.message.tag content
-      (awaited_takes at.cache f.message.block need.Read (meets (DataE content) is refl).0))
-  body_step (UpgOk due) is = cache_step _ (upgrade_granted_small at (home_node s f.message.block) f.message.tag due)
-  body_step InvAck is = cache_step _ (acknowledge_small at (home_node s f.message.block))
-  body_step PutGo is = cache_step _ (put_go_small at (home_node s f.message.block) f.message.block (node_at s f.message.to).now)
-  body_step PutDone is = cache_step _ (put_done_small at)
-  body_step (Ready k) is = ready_step k
-  body_step (Advance k) is = advance_step k
+  home_row_step : (taken : HomeRow) → IsStep config s (delivers config s f.message (AtHome (left_at_home s f.message taken)))
+  home_row_step taken =
+      home_step (left_at_home s f.message taken)
+      (row_few (kept_at s f.message.to f.message.block) sixteen f.message.from f.message.block (node_at s f.message.to).now f.message.tag taken)
 
   flight_step : IsStep config s (delivers_flight config s (Some f))
   flight_step = by_test config s (not (is_there f)) (step_refused s NotArrived) _ (λ e. same_step config s NotArrived)
       (λ e. by_test config s (nat_lt (node_at s f.message.to).now f.message.tag) (step_refused s Held)
       (delivers config s f.message (outcome_of s f.message f.message.body)) (λ e. same_step config s Held)
-      (λ e. body_step f.message.body refl))
+      (λ e. each_row s f.message (λ outcome. IsStep config s (delivers config s f.message outcome)) cache_row_step
+      (λ message is served. home_row_step (row_at_home s f.message message)) (same_step config s HomeBusy)
+      (λ k is. ready_step k) (λ k is. advance_step k)))
 
 pub delivery_step : (config : Config) (s : Fabric) (t : GhostState) (id : ℕ) (found : Option Flight) → FabricInvariant s t →
     flight_of s.net.flights id ≡ found → IsStep config s (delivers_flight config s found)

@@ -1,27 +1,26 @@
 -- Where the fabric goes on from a saved recovery point all bounds are kept.
-use Rattle.std.proofs.Common.{◌≡◌, ◌∙◌, ◌⊎◌, inl, inr, ⊎_elim, ℕ, suc, ◌+◌, ◌*◌, ◌%◌, ◌<◌, ◌≤◌, Bool, true, false, ◌&&◌, ◌||◌, cond, List, [], ◌∷◌, ◌++◌}
+use Rattle.std.proofs.Common.{◌≡◌, ◌∙◌, ⊎_elim, ℕ, ◌+◌, ◌%◌, ◌<◌, ◌≤◌, Bool, true, false, ◌&&◌, ◌||◌, cond, List, [], ◌∷◌, ◌++◌}
 use Rattle.std.proofs.Common.{length, refl, sym, ap, subst, arith, append_assoc, nat_lt, Option, Some, None}
 use Rattle.std.specs.Prelude.{nat_eq, nat_le, if◌then◌else◌, filter}
 use Rattle.std.proofs.lemmas.Bool.{cases_lt}
 use Rattle.std.proofs.lemmas.Bool.Decides.{nat_tests}
 use Rattle.std.proofs.lemmas.List.{append-nil}
-use Rattle.std.proofs.lemmas.List.Elements.{filter-append}
 use Rattle.sn_base.specs.Config.{config_fits}
 use Rattle.sn_base.specs.Image.{ImageData}
 use Rattle.sn_base.specs.declared.config.Config.{Config}
-use Rattle.sn_model.specs.Caches.{Line, Cache, no_line, line_of, is_present, empty_lines, block_count, takes_frame, frames_taken}
+use Rattle.sn_model.specs.Caches.{Line, Cache, is_present, empty_lines, block_count, takes_frame, frames_taken}
 use Rattle.sn_model.specs.Caches.{cache_of_lines}
 use Rattle.sn_model.specs.Fabric.{Fabric, Node, node_at}
 use Rattle.sn_model.specs.PointEvents.{restored_line}
 use Rattle.sn_model.specs.RecoveryPoint.{block_in}
 use Rattle.fabric_coherence.specs.Resumed.{content_owned, cache_resumed, node_resumed, fabric_resumed, flat_resumed, resumed}
-use Rattle.fabric_coherence.specs.Saved.{Saved, IsAccepted, AreInside, owner_in, owned_in, full_from, first_full, marks_fit}
+use Rattle.fabric_coherence.specs.Saved.{Saved, IsAccepted, AreInside, owner_in, owned_in, full_from}
 use Rattle.fabric_coherence.specs.OtherEvents.{owns}
 use Rattle.sn_model.proofs.Taken.{none-taken, taken-fewer, taken-more}
 use Rattle.fabric_coherence.specs.Start.{is_home_owned, owner_or_zero, resumed_beside}
 use Rattle.fabric_coherence.proofs.KeptResumed.{resumed-kept, line_resumed, line_past, count_resumed, node_resumed_is}
-use Rattle.fabric_bounds.specs.Bounds.{CacheFits, EdgeFits, IsBounded, KeepsBounds}
-use Rattle.fabric_bounds.specs.Counts.{most_sent, CountsTo}
+use Rattle.fabric_bounds.specs.Bounds.{CacheFits, EdgeFits, KeepsBounds}
+use Rattle.fabric_bounds.specs.Counts.{CountsTo}
 
 -- a block takes a frame where the node owns it
 

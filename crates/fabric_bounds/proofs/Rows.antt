@@ -3,14 +3,19 @@ use Rattle.std.proofs.Common.{◌≡◌, ℕ, ◌≤◌, Bool, true, false, ◌|
 use Rattle.std.proofs.Common.{None}
 use Rattle.std.proofs.lemmas.Bool.Decides.{nat_tests}
 use Rattle.std.specs.Prelude.{slice_set}
+use Rattle.log_buffer.specs.Log.{log_with_note}
+use Rattle.sn_base.specs.declared.log.LogEntry.{LogEntry}
+use Rattle.sn_base.specs.declared.log.Old.TheVariants.{NotOwned}
 use Rattle.sn_model.specs.declared.cache.LineState.{LineState}
 use Rattle.sn_model.specs.declared.cache.LineState.TheVariants.{Absent, Shared, Owned, Modified, Exclusive}
 use Rattle.sn_model.specs.declared.cache.Need.{Need}
-use Rattle.sn_model.specs.Caches.{Cache, Line, Miss, no_line, line_of, with_line, is_present, is_owned, is_writable_state, misses_on}
-use Rattle.sn_model.specs.Caches.{takes_frame}
-use Rattle.sn_model.specs.CacheRows.{Logged, CacheReply, AwaitsAnswer, content_of, line_when_done, reply_when_complete, reply_or_wait}
-use Rattle.sn_model.specs.CacheRows.{reply_or_wait_by, fixed_at, miss_with_ack, taken_over, forward_read, forward_write, invalidate}
-use Rattle.sn_model.specs.CacheRows.{data_shared, data_modified, data_exclusive, upgrade_granted, acknowledge, put_go, put_done}
+use Rattle.sn_model.specs.declared.cache.Need.TheVariants.{Read, Write}
+use Rattle.sn_model.specs.declared.rows.CacheRow.{CacheRow}
+use Rattle.sn_model.specs.declared.rows.CacheRow.TheVariants as row
+use Rattle.sn_model.specs.Caches.{Cache, Line, Miss, no_line, line_of, with_line, without_line, is_present, is_owned, is_writable_state}
+use Rattle.sn_model.specs.Caches.{misses_on, takes_frame}
+use Rattle.sn_model.specs.CacheRows.{Logged, CacheReply, AwaitsAnswer, MeetsCacheRow, cache_reply, content_of, line_when_done}
+use Rattle.sn_model.specs.CacheRows.{reply_when_complete, reply_or_wait, reply_or_wait_by, fixed_at, miss_with_ack}
 use Rattle.sn_model.proofs.Taken.{TakesFewer, fewer-set}
 
 -- a row takes no new frame, and sends one message at most
@@ -25,7 +30,7 @@ owned_present Owned e = refl
 owned_present Modified e = refl
 owned_present Exclusive e = refl
 
-pub owned_takes : (c : Cache) (x : ℕ) → is_owned (line_of c x).state ≡ true → takes_frame c x ≡ true
+owned_takes : (c : Cache) (x : ℕ) → is_owned (line_of c x).state ≡ true → takes_frame c x ≡ true
 owned_takes c x e = let p : is_present (line_of c x).state ≡ true = owned_present (line_of c x).state e in rw p refl
 
 writable_present : (state : LineState) → is_writable_state state ≡ true → is_present state ≡ true
@@ -38,7 +43,7 @@ writable_present Exclusive e = refl
 pub writable_takes : (c : Cache) (x : ℕ) → is_writable_state (line_of c x).state ≡ true → takes_frame c x ≡ true
 writable_takes c x e = let p : is_present (line_of c x).state ≡ true = writable_present (line_of c x).state e in rw p refl
 
-pub or_right : (p m : Bool) → m ≡ true → (p || m) ≡ true
+or_right : (p m : Bool) → m ≡ true → (p || m) ≡ true
 or_right p m e = grind arith
 
 pub or_left : (p m : Bool) → p ≡ true → (p || m) ≡ true
@@ -92,7 +97,7 @@ module _ (at : Logged) (d : Cache) (fewer : TakesFewer at.cache d) (home : ℕ) 
       all_in true = record { fewer = completes miss fixed on; sends = omega arith }
       all_in false = record { fewer = waits miss on; sends = omega arith }
 
-  pub completed_or_waiting_small : (o : Option Miss) → IsOn o → IsSmall (reply_or_wait at home o) d
+  completed_or_waiting_small : (o : Option Miss) → IsOn o → IsSmall (reply_or_wait at home o) d
   completed_or_waiting_small None on = record { fewer = fewer; sends = omega arith }
   completed_or_waiting_small (Some miss) on = completed_or_waiting_by_small miss miss.fixed on
 
@@ -112,62 +117,37 @@ module _ (at : Logged) where
   stays : TakesFewer at.cache at.cache
   stays b e = e
 
-  abbrev with_new : ℕ → LineState → List ℕ → Cache
-  with_new block state content = with_line at.cache block state content
-
-  gone_fewer : (block : ℕ) → TakesFewer (record at.cache { lines = slice_set at.cache.lines block no_line }) at.cache
+  gone_fewer : (block : ℕ) → TakesFewer (without_line at.cache block) at.cache
   gone_fewer block = line_fewer at.cache block no_line (λ e. absurd (cc))
 
-  pub forward_read_small : (block r : ℕ) → is_owned (line_of at.cache block).state ≡ true → IsSmall (forward_read at block r) at.cache
-  forward_read_small block r owned =
-      record {
-        fewer = line_fewer at.cache block (record { state = Owned; content = content_of at block })
-            (λ e. owned_takes at.cache block owned);
-        sends = omega arith;
-      }
-
-  pub forward_write_small : (block now r due : ℕ) → IsSmall (forward_write at block now r due) at.cache
-  forward_write_small block now r due = record { fewer = gone_fewer block; sends = omega arith }
-
-  pub invalidate_small : (block r : ℕ) → IsSmall (invalidate at block r) at.cache
-  invalidate_small block r = record { fewer = gone_fewer block; sends = omega arith }
-
-  pub put_go_small : (home block now : ℕ) → IsSmall (put_go at home block now) at.cache
-  put_go_small home block now = record { fewer = gone_fewer block; sends = omega arith }
-
-  pub put_done_small : IsSmall (put_done at) at.cache
-  put_done_small = record { fewer = stays; sends = omega arith }
-
-  -- an answer brings a line of a block that takes a frame
-  arrives : (block : ℕ) (state : LineState) (content : List ℕ) → takes_frame at.cache block ≡ true →
-      TakesFewer (with_new block state content) at.cache
-  arrives block state content takes = line_fewer at.cache block (record { state = state; content = content }) (λ e. takes)
-
-  module _ (home block tag : ℕ) where
-    pub data_shared_small : (content : List ℕ) → takes_frame at.cache block ≡ true →
-        IsSmall (data_shared at home block tag content) at.cache
-    data_shared_small content takes =
-        completed_or_waiting_small (record at { cache = with_new block Shared content }) at.cache (arrives block Shared content takes) home
-        (fixed_at at.cache.miss tag 0) (λ b e. missed_takes b (fixed_on at.cache.miss tag 0 b e))
-
-    pub data_modified_small : (content : List ℕ) (due : ℕ) → takes_frame at.cache block ≡ true →
-        IsSmall (data_modified at home block tag content due) at.cache
-    data_modified_small content due takes =
-        completed_or_waiting_small (taken_over at block tag Modified content) at.cache (arrives block Modified content takes) home
+  module _ (home block now tag : ℕ) where
+    -- an answer brings a line of a block that takes a frame
+    answer_small : (state : LineState) (content : List ℕ) (log : List LogEntry) (need : Need) (due : ℕ) → AwaitsAnswer at.cache.miss block need →
+        IsSmall (reply_or_wait (record { cache = with_line at.cache block state content; log = log }) home (fixed_at at.cache.miss tag due)) at.cache
+    answer_small state content log need due awaits =
+        completed_or_waiting_small (record { cache = with_line at.cache block state content; log = log }) at.cache
+        (line_fewer at.cache block (record { state = state; content = content }) (λ e. awaited_takes at.cache block need awaits)) home
         (fixed_at at.cache.miss tag due) (λ b e. missed_takes b (fixed_on at.cache.miss tag due b e))
 
-    pub data_exclusive_small : (content : List ℕ) → takes_frame at.cache block ≡ true →
-        IsSmall (data_exclusive at home block tag content) at.cache
-    data_exclusive_small content takes =
-        completed_or_waiting_small (taken_over at block tag Exclusive content) at.cache (arrives block Exclusive content takes) home
-        (fixed_at at.cache.miss tag 0) (λ b e. missed_takes b (fixed_on at.cache.miss tag 0 b e))
-
-  pub upgrade_granted_small : (home tag due : ℕ) → IsSmall (upgrade_granted at home tag due) at.cache
-  upgrade_granted_small home tag due =
-      completed_or_waiting_small at at.cache stays home (fixed_at at.cache.miss tag due)
-      (λ b e. missed_takes b (fixed_on at.cache.miss tag due b e))
-
-  pub acknowledge_small : (home : ℕ) → IsSmall (acknowledge at home) at.cache
-  acknowledge_small home =
-      completed_or_waiting_small at at.cache stays home (miss_with_ack at.cache.miss)
-      (λ b e. missed_takes b (acknowledged_on at.cache.miss b e))
+    pub row_small : (taken : CacheRow) → MeetsCacheRow at block taken → IsSmall (cache_reply at home block now tag taken) at.cache
+    row_small (row.ForwardRead r) met =
+        record {
+          fewer = line_fewer at.cache block (record { state = Owned; content = content_of at block })
+              (λ e. owned_takes at.cache block met);
+          sends = omega arith;
+        }
+    row_small (row.ForwardWrite r due) met = record { fewer = gone_fewer block; sends = omega arith }
+    row_small (row.Invalidate r) met = record { fewer = gone_fewer block; sends = omega arith }
+    row_small (row.DataShared content) met = answer_small Shared content at.log Read 0 met.0
+    row_small (row.DataModified content due) met =
+        answer_small Modified content (log_with_note at.log tag block NotOwned) Write due met.0
+    row_small (row.UpgradeGranted due) met =
+        completed_or_waiting_small at at.cache stays home (fixed_at at.cache.miss tag due)
+        (λ b e. missed_takes b (fixed_on at.cache.miss tag due b e))
+    row_small row.Acknowledge met =
+        completed_or_waiting_small at at.cache stays home (miss_with_ack at.cache.miss)
+        (λ b e. missed_takes b (acknowledged_on at.cache.miss b e))
+    row_small row.PutGo met = record { fewer = gone_fewer block; sends = omega arith }
+    row_small row.PutDone met = record { fewer = stays; sends = omega arith }
+    row_small (row.DataExclusive content) met =
+        answer_small Exclusive content (log_with_note at.log tag block NotOwned) Read 0 met.0
