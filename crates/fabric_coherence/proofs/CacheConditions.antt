@@ -1,25 +1,29 @@
 -- A message that is delivered meets the condition of its row: what the coherence theorem says of its block, said of the cache.
-use Rattle.std.proofs.Common.{◌≡◌, ◌∙◌, ◌⊎◌, ℕ, ◌+◌, ◌<◌, ◌≤◌, Bool, true, false, refl, sym, ap, subst, Option, Some, None, inl, inr, arith}
+use Rattle.std.proofs.Common.{◌≡◌, true≢false, ◌∙◌, ◌⊎◌, ℕ, ◌+◌, ◌<◌, ◌≤◌, Bool, true, false, refl, sym, ap, subst, Option, Some, None, inl}
+use Rattle.std.proofs.Common.{inr, arith}
 use Rattle.std.proofs.lemmas.Bool.Decides.{nat_tests}
-use Rattle.std.specs.Prelude.{if◌then◌else◌, List, nat_eq, is_some}
+use Rattle.std.specs.Prelude.{if◌then◌else◌, nat_eq, is_some}
 use Rattle.sn_msg.specs.declared.Message.{Message}
 use Rattle.sn_msg.specs.declared.Body.{Body}
 use Rattle.sn_msg.specs.declared.Body.TheVariants.{FwdGetS, FwdGetM, Inv, DataS, DataM, DataE, UpgOk, InvAck, PutGo, PutDone}
-use Rattle.log_buffer.specs.Log.{logged_to}
 use Rattle.sn_model.specs.declared.cache.LineState.{LineState}
 use Rattle.sn_model.specs.declared.cache.LineState.TheVariants.{Absent, Shared, Owned, Modified, Exclusive}
 use Rattle.sn_model.specs.declared.cache.Need.{Need}
 use Rattle.sn_model.specs.declared.cache.Need.TheVariants.{Read, Write}
-use Rattle.sn_model.specs.Caches.{Miss, Put, line_of, is_owned, puts_on}
+use Rattle.sn_model.specs.declared.rows.CacheRow.{CacheRow}
+use Rattle.sn_model.specs.declared.rows.CacheRow.TheVariants as row
+use Rattle.sn_model.specs.declared.rows.Receiver.TheVariants as receiver
+use Rattle.sn_model.specs.Caches.{Cache, Miss, Put, line_of, is_owned, puts_on}
 use Rattle.sn_model.specs.Fabric.{Fabric, node_at}
 use Rattle.sn_model.specs.NetEvents.{logged_at}
-use Rattle.sn_model.specs.CacheRows.{AwaitsAnswer, NoneIn, is_absent_or_shared, MayForward, MayTakeCopy, MayTakeOwnership, MayUpgrade, MayCount}
-use Rattle.sn_model.specs.CacheRows.{MayGiveBack, MayClosePut}
+use Rattle.sn_model.specs.CacheRows.{AwaitsAnswer, NoneIn, is_absent_or_shared, MayTakeCopy, MayCount, MeetsCacheRow, noted_by_cache}
+use Rattle.sn_model.specs.Receivers.{IsNoteInOrder, receiver_of}
 use Rattle.sn_coherence.specs.Block as block
 use Rattle.sn_coherence.specs.Invariant.{Stages}
 use Rattle.sn_coherence.specs.Consequences.{MeetsRows, MeetsNotes}
 use Rattle.fabric_coherence.specs.View.{GhostState, block_seen, message_seen, line_seen, miss_seen, miss_here, put_seen, wants}
 use Rattle.fabric_coherence.specs.Steps.{IsInFlight}
+use Rattle.fabric_coherence.proofs.Receivers.{body_of, says_body, seen_as_sent}
 
 owned_seen : (state : LineState) → is_owned state ≡ block.is_owned (line_seen state)
 owned_seen Absent = refl
@@ -58,13 +62,15 @@ on_block : (miss : Miss) (b : ℕ) (c : Bool) → nat_eq miss.block b ≡ c →
 on_block miss b true e h = grind (arith, nat_tests)
 on_block miss b false e h = absurd (cc)
 
-reads_is : (need : Need) → wants need ≡ block.Reads → need ≡ Read
-reads_is Read e = refl
-reads_is Write e = absurd (cc)
+wants_is : (a b : Need) → wants a ≡ wants b → a ≡ b
+wants_is Read Read e = refl
+wants_is Read Write e = absurd (cc)
+wants_is Write Read e = absurd (cc)
+wants_is Write Write e = refl
 
-writes_is : (need : Need) → wants need ≡ block.Writes → need ≡ Write
-writes_is Read e = absurd (cc)
-writes_is Write e = refl
+wanted_here : (need : Need) → block.is_here (wants need) ≡ true
+wanted_here Read = refl
+wanted_here Write = refl
 
 unfixed_is : (fixed : Option ℕ) → is_some fixed ≡ false → fixed ≡ None
 unfixed_is None e = refl
@@ -73,27 +79,16 @@ unfixed_is (Some fixed) e = absurd (cc)
 here_is : (miss : Miss) (b : ℕ) → miss.block ≡ b → miss_seen b (Some miss) ≡ miss_here miss
 here_is miss b e = grind (arith, nat_tests)
 
-awaits_read : (o : Option Miss) (b : ℕ) → (miss_seen b o).want ≡ block.Reads → (miss_seen b o).is_fixed ≡ false → AwaitsAnswer o b Read
-awaits_read None b w f = absurd (cc)
-awaits_read (Some miss) b w f = (
+awaits : (o : Option Miss) (b : ℕ) (need : Need) → (miss_seen b o).want ≡ wants need → (miss_seen b o).is_fixed ≡ false → AwaitsAnswer o b need
+awaits None b need w f = absurd (true≢false (sym (ap block.is_here w ∙ wanted_here need)))
+awaits (Some miss) b need w f = (
   on,
-  reads_is miss.need (ap (λ x. x.want) (sym (here_is miss b on)) ∙ w),
+  wants_is miss.need need (ap (λ x. x.want) (sym (here_is miss b on)) ∙ w),
   unfixed_is miss.fixed (ap (λ x. x.is_fixed) (sym (here_is miss b on)) ∙ f),
 )
   where
     on : miss.block ≡ b
-    on = on_block miss b (nat_eq miss.block b) refl (ap block.is_here w)
-
-awaits_write : (o : Option Miss) (b : ℕ) → (miss_seen b o).want ≡ block.Writes → (miss_seen b o).is_fixed ≡ false → AwaitsAnswer o b Write
-awaits_write None b w f = absurd (cc)
-awaits_write (Some miss) b w f = (
-  on,
-  writes_is miss.need (ap (λ x. x.want) (sym (here_is miss b on)) ∙ w),
-  unfixed_is miss.fixed (ap (λ x. x.is_fixed) (sym (here_is miss b on)) ∙ f),
-)
-  where
-    on : miss.block ≡ b
-    on = on_block miss b (nat_eq miss.block b) refl (ap block.is_here w)
+    on = on_block miss b (nat_eq miss.block b) refl (ap block.is_here w ∙ wanted_here need)
 
 none_in : (o : Option Miss) (b : ℕ) → (miss_seen b o).want ≡ block.Reads → (miss_seen b o).acks ≡ 0 → NoneIn o
 none_in None b w e = tt
@@ -101,6 +96,15 @@ none_in (Some miss) b w e = subst (λ x. x.acks ≡ 0) (here_is miss b on) e
   where
     on : miss.block ≡ b
     on = on_block miss b (nat_eq miss.block b) refl (ap block.is_here w)
+
+-- and where none is in, its block sees none
+pub none_seen : (o : Option Miss) (b : ℕ) → NoneIn o → (miss_seen b o).acks ≡ 0
+none_seen None b e = refl
+none_seen (Some miss) b e = by_test (nat_eq miss.block b)
+  where
+    by_test : (c : Bool) → (if c then miss_here miss else block.new_miss block.Elsewhere miss.issued).acks ≡ 0
+    by_test true = e
+    by_test false = refl
 
 may_count : (o : Option Miss) (b : ℕ) → block.is_here (miss_seen b o).want ≡ true → (miss_seen b o).acks < 15 → MayCount o b
 may_count None b w l = absurd (cc)
@@ -128,129 +132,103 @@ inside_owned b block.Take st k ta i = ap block.is_owned (st.inside_other (ap blo
 inside_owned b block.Move st k ta i = ap block.is_owned (st.inside_other (ap block.brings_to_cache k) i)
 inside_owned b block.Upgrade st k ta i = ap block.is_owned (st.inside_upgrade k i)
 
+-- a message is this row at the cache that it has come to: the row's condition is met, and what it notes is late enough
+pub record IsAtCache (s : Fabric) (m : Message) (taken : CacheRow) : Type 0 where
+  pub body : m.body ≡ body_of taken
+  pub met : MeetsCacheRow (logged_at s m.to) m.block taken
+  pub late : IsNoteInOrder (node_at s m.to).log false m.block (noted_by_cache (node_at s m.to).now m.tag taken)
+
 module _ (s : Fabric) (t : GhostState) (m : Message) (flight : IsInFlight s m) where
   abbrev here : block.Block
   here = block_seen s t m.block
 
+  abbrev cache : Cache
+  cache = (node_at s m.to).cache
+
+  abbrev state : LineState
+  state = (line_of cache m.block).state
+
   -- the message as its block sees it
-  as_body : (body : Body) → m.body ≡ body → here.net m.id ≡ message_seen m body
-  as_body body e = flight.seen ∙ ap (message_seen m) e
+  seen_as : (x : Body) → m.body ≡ x → here.net m.id ≡ message_seen m x
+  seen_as x is = flight.seen ∙ ap (message_seen m) is
+
+  body_seen : (x : Body) → m.body ≡ x → (here.net m.id).body ≡ (message_seen m x).body
+  body_seen x is = ap (λ (y : block.Message). y.body) (seen_as x is)
+
+  pub receiver_seen : (here.net m.id).to ≡ m.to
+  receiver_seen = ap (λ (y : block.Message). y.to) flight.seen ∙ (seen_as_sent m m.body).1
+
+  owned : block.is_owned (here.line (here.net m.id).to) ≡ true → is_owned state ≡ true
+  owned h = owned_seen state ∙ subst (λ n. block.is_owned (here.line n) ≡ true) receiver_seen h
+
+  -- what DataS and DataE find: a read miss whose answer isn't there, no acknowledgement, and no line
+  abbrev FindsRead : ℕ → Type 0
+  FindsRead n =
+      ((here.miss n).want ≡ block.Reads) × ((here.miss n).is_fixed ≡ false) × ((here.miss n).acks ≡ 0) × (here.line n ≡ block.NoLine)
+
+  may_take_copy : FindsRead (here.net m.id).to → MayTakeCopy (logged_at s m.to) m.block
+  may_take_copy found =
+      let h : FindsRead m.to = subst FindsRead receiver_seen found in
+      (awaits cache.miss m.block Read h.0 h.1, absent_is state h.3, none_in cache.miss m.block h.0 h.2)
 
   module _ (rows : MeetsRows here) where
-    pub meets_forward_read : (r : ℕ) → m.body ≡ FwdGetS r → MayForward (logged_at s m.to) m.block
-    meets_forward_read r e = owned_seen (line_of (node_at s m.to).cache m.block).state
-        ∙ subst (λ x. block.is_owned (here.line x.to) ≡ true) (as_body (FwdGetS r) e)
-        (rows.forward_read m.id (ap (λ x. x.body) (as_body (FwdGetS r) e)))
+    pub meets_invalidate : (r : ℕ) → m.body ≡ Inv r → is_owned state ≡ false
+    meets_invalidate r is =
+        owned_seen state
+        ∙ subst (λ n. block.is_owned (here.line n) ≡ false) receiver_seen (rows.invalidate m.id (body_seen (Inv r) is))
 
-    pub meets_forward_write : (r a : ℕ) → m.body ≡ FwdGetM r a → MayForward (logged_at s m.to) m.block
-    meets_forward_write r a e = owned_seen (line_of (node_at s m.to).cache m.block).state
-        ∙ subst (λ x. block.is_owned (here.line x.to) ≡ true) (as_body (FwdGetM r a) e)
-        (rows.forward_write m.id (ap (λ x. x.body) (as_body (FwdGetM r a) e)))
-
-    pub meets_invalidate : (r : ℕ) → m.body ≡ Inv r → is_owned (line_of (node_at s m.to).cache m.block).state ≡ false
-    meets_invalidate r e = owned_seen (line_of (node_at s m.to).cache m.block).state
-        ∙ subst (λ x. block.is_owned (here.line x.to) ≡ false) (as_body (Inv r) e)
-        (rows.invalidate m.id (ap (λ x. x.body) (as_body (Inv r) e)))
-
-    pub meets_data_shared : (content : List ℕ) → m.body ≡ DataS content →
-        MayTakeCopy (logged_at s m.to) m.block × ((here.miss m.to).acks ≡ 0)
-    meets_data_shared content e = (
-      (
-        awaits_read (node_at s m.to).cache.miss m.block h.0 h.1,
-        absent_is (line_of (node_at s m.to).cache m.block).state h.3,
-        none_in (node_at s m.to).cache.miss m.block h.0 h.2,
-      ),
-      h.2,
-    )
-      where
-        h : ((here.miss m.to).want ≡ block.Reads) × ((here.miss m.to).is_fixed ≡ false) × ((here.miss m.to).acks ≡ 0)
-            × (here.line m.to ≡ block.NoLine)
-        h =
-            subst (λ x. ((here.miss x.to).want ≡ block.Reads) × ((here.miss x.to).is_fixed ≡ false) × ((here.miss x.to).acks ≡ 0)
-            × (here.line x.to ≡ block.NoLine))
-            (as_body (DataS content) e) (rows.data_shared m.id (ap (λ x. x.body) (as_body (DataS content) e)))
-
-    pub meets_data_exclusive : (content : List ℕ) → m.body ≡ DataE content →
-        MayTakeCopy (logged_at s m.to) m.block × ((here.miss m.to).acks ≡ 0)
-    meets_data_exclusive content e = (
-      (
-        awaits_read (node_at s m.to).cache.miss m.block h.0 h.1,
-        absent_is (line_of (node_at s m.to).cache m.block).state h.3,
-        none_in (node_at s m.to).cache.miss m.block h.0 h.2,
-      ),
-      h.2,
-    )
-      where
-        h : ((here.miss m.to).want ≡ block.Reads) × ((here.miss m.to).is_fixed ≡ false) × ((here.miss m.to).acks ≡ 0)
-            × (here.line m.to ≡ block.NoLine)
-        h =
-            subst (λ x. ((here.miss x.to).want ≡ block.Reads) × ((here.miss x.to).is_fixed ≡ false) × ((here.miss x.to).acks ≡ 0)
-            × (here.line x.to ≡ block.NoLine))
-            (as_body (DataE content) e) (rows.data_exclusive m.id (ap (λ x. x.body) (as_body (DataE content) e)))
-
-    pub meets_data_modified : (content : List ℕ) (a : ℕ) → m.body ≡ DataM content a → MayTakeOwnership (logged_at s m.to) m.block
-    meets_data_modified content a e =
-        (awaits_write (node_at s m.to).cache.miss m.block h.0 h.1, low_is (line_of (node_at s m.to).cache m.block).state h.2)
-      where
-        h : ((here.miss m.to).want ≡ block.Writes) × ((here.miss m.to).is_fixed ≡ false)
-            × ((here.line m.to ≡ block.NoLine) ⊎ (here.line m.to ≡ block.Shared))
-        h =
-            subst (λ x. ((here.miss x.to).want ≡ block.Writes) × ((here.miss x.to).is_fixed ≡ false)
-            × ((here.line x.to ≡ block.NoLine) ⊎ (here.line x.to ≡ block.Shared)))
-            (as_body (DataM content a) e) (rows.data_modified m.id (ap (λ x. x.body) (as_body (DataM content a) e)))
-
-    pub meets_upgrade_granted : (a : ℕ) → m.body ≡ UpgOk a → MayUpgrade (logged_at s m.to) m.block
-    meets_upgrade_granted a e =
-        (awaits_write (node_at s m.to).cache.miss m.block h.0 h.1, owned_is (line_of (node_at s m.to).cache m.block).state h.2)
-      where
-        h : ((here.miss m.to).want ≡ block.Writes) × ((here.miss m.to).is_fixed ≡ false) × (here.line m.to ≡ block.Owned)
-        h = subst (λ x. ((here.miss x.to).want ≡ block.Writes) × ((here.miss x.to).is_fixed ≡ false) × (here.line x.to ≡ block.Owned))
-            (as_body (UpgOk a) e) (rows.upgrade_granted m.id (ap (λ x. x.body) (as_body (UpgOk a) e)))
-
-    pub meets_acknowledge : m.body ≡ InvAck → MayCount (node_at s m.to).cache.miss m.block
-    meets_acknowledge e = may_count (node_at s m.to).cache.miss m.block h.0 h.1
-      where
-        h : (block.is_here (here.miss m.to).want ≡ true) × ((here.miss m.to).acks < 15)
-        h =
-            subst (λ x. (block.is_here (here.miss x.to).want ≡ true) × ((here.miss x.to).acks < 15)) (as_body InvAck e)
-            (rows.acknowledge m.id (ap (λ x. x.body) (as_body InvAck e)))
-
-    pub meets_put_go : m.body ≡ PutGo → MayGiveBack (logged_at s m.to) m.block
-    meets_put_go e = (owned_seen (line_of (node_at s m.to).cache m.block).state ∙ h.0, puts_here (node_at s m.to).cache.put m.block h.1)
-      where
-        h : (block.is_owned (here.line m.to) ≡ true) × (here.putting m.to ≡ block.Here)
-        h =
-            subst (λ x. (block.is_owned (here.line x.to) ≡ true) × (here.putting x.to ≡ block.Here)) (as_body PutGo e)
-            (rows.put_go m.id (ap (λ x. x.body) (as_body PutGo e)))
-
-    pub meets_put_done : m.body ≡ PutDone → MayClosePut (logged_at s m.to) m.block
-    meets_put_done e = puts_here (node_at s m.to).cache.put m.block
-        (subst (λ x. here.putting x.to ≡ block.Here) (as_body PutDone e) (rows.put_done m.id (ap (λ x. x.body) (as_body PutDone e))))
+    meets_cache_row : (taken : CacheRow) → m.body ≡ body_of taken → MeetsCacheRow (logged_at s m.to) m.block taken
+    meets_cache_row (row.ForwardRead r) is = owned (rows.forward_read m.id (body_seen (FwdGetS r) is))
+    meets_cache_row (row.ForwardWrite r due) is = owned (rows.forward_write m.id (body_seen (FwdGetM r due) is))
+    meets_cache_row (row.Invalidate r) is = tt
+    meets_cache_row (row.DataShared content) is = may_take_copy (rows.data_shared m.id (body_seen (DataS content) is))
+    meets_cache_row (row.DataModified content due) is =
+        let h = subst
+        (λ n. ((here.miss n).want ≡ block.Writes) × ((here.miss n).is_fixed ≡ false)
+        × ((here.line n ≡ block.NoLine) ⊎ (here.line n ≡ block.Shared)))
+        receiver_seen (rows.data_modified m.id (body_seen (DataM content due) is)) in
+        (awaits cache.miss m.block Write h.0 h.1, low_is state h.2)
+    meets_cache_row (row.UpgradeGranted due) is =
+        let h = subst (λ n. ((here.miss n).want ≡ block.Writes) × ((here.miss n).is_fixed ≡ false) × (here.line n ≡ block.Owned))
+        receiver_seen (rows.upgrade_granted m.id (body_seen (UpgOk due) is)) in
+        (awaits cache.miss m.block Write h.0 h.1, owned_is state h.2)
+    meets_cache_row row.Acknowledge is =
+        let h = subst (λ n. (block.is_here (here.miss n).want ≡ true) × ((here.miss n).acks < 15)) receiver_seen
+        (rows.acknowledge m.id (body_seen InvAck is)) in
+        may_count cache.miss m.block h.0 h.1
+    meets_cache_row row.PutGo is =
+        let h = subst (λ n. (block.is_owned (here.line n) ≡ true) × (here.putting n ≡ block.Here)) receiver_seen
+        (rows.put_go m.id (body_seen PutGo is)) in
+        (owned_seen state ∙ h.0, puts_here cache.put m.block h.1)
+    meets_cache_row row.PutDone is =
+        puts_here cache.put m.block
+        (subst (λ n. here.putting n ≡ block.Here) receiver_seen (rows.put_done m.id (body_seen PutDone is)))
+    meets_cache_row (row.DataExclusive content) is = may_take_copy (rows.data_exclusive m.id (body_seen (DataE content) is))
 
   -- a miss that is fixed has its line
-  pub fixed_owns : Stages here → (here.miss m.to).is_fixed ≡ true → is_owned (line_of (node_at s m.to).cache m.block).state ≡ true
-  fixed_owns stages e = owned_seen (line_of (node_at s m.to).cache m.block).state
+  pub fixed_owns : Stages here → (here.miss m.to).is_fixed ≡ true → is_owned state ≡ true
+  fixed_owns stages e = owned_seen state
       ∙ subst (λ n. block.is_owned (here.line n) ≡ true) (stages.fixed m.to e).2
       (inside_owned here here.kind stages refl (stages.fixed m.to e).0 (stages.fixed m.to e).1)
 
   -- the notes
   module _ (notes : MeetsNotes here) where
-    pub notes_forward_write : (r a : ℕ) → m.body ≡ FwdGetM r a → logged_to (node_at s m.to).log false m.block ≤ (node_at s m.to).now + 1
-    notes_forward_write r a e =
-        subst (λ x. here.last x.to ≤ here.now x.to + 1) (as_body (FwdGetM r a) e)
-        (notes.forward_write m.id (ap (λ x. x.body) (as_body (FwdGetM r a) e)))
+    late_now : here.last (here.net m.id).to ≤ here.now (here.net m.id).to + 1 → here.last m.to ≤ here.now m.to + 1
+    late_now h = subst (λ n. here.last n ≤ here.now n + 1) receiver_seen h
 
-    pub notes_put_go : m.body ≡ PutGo → logged_to (node_at s m.to).log false m.block ≤ (node_at s m.to).now + 1
-    notes_put_go e =
-        subst (λ x. here.last x.to ≤ here.now x.to + 1) (as_body PutGo e) (notes.put_go m.id (ap (λ x. x.body) (as_body PutGo e)))
+    cache_late : (taken : CacheRow) → m.body ≡ body_of taken →
+        IsNoteInOrder (node_at s m.to).log false m.block (noted_by_cache (node_at s m.to).now m.tag taken)
+    cache_late (row.ForwardWrite r due) is = late_now (notes.forward_write m.id (body_seen (FwdGetM r due) is))
+    cache_late row.PutGo is = late_now (notes.put_go m.id (body_seen PutGo is))
+    cache_late (row.DataModified content due) is =
+        subst (λ (y : block.Message). here.last y.to ≤ y.tag + 1) (seen_as (DataM content due) is)
+        (notes.data_modified m.id (body_seen (DataM content due) is))
+    cache_late (row.DataExclusive content) is =
+        subst (λ (y : block.Message). here.last y.to ≤ y.tag + 1) (seen_as (DataE content) is)
+        (notes.data_exclusive m.id (body_seen (DataE content) is))
+    cache_late _ is = tt
 
-    pub notes_data_modified : (content : List ℕ) (a : ℕ) → m.body ≡ DataM content a →
-        logged_to (node_at s m.to).log false m.block ≤ m.tag + 1
-    notes_data_modified content a e =
-        subst (λ x. here.last x.to ≤ x.tag + 1) (as_body (DataM content a) e)
-        (notes.data_modified m.id (ap (λ x. x.body) (as_body (DataM content a) e)))
-
-    pub notes_data_exclusive : (content : List ℕ) → m.body ≡ DataE content → logged_to (node_at s m.to).log false m.block ≤ m.tag + 1
-    notes_data_exclusive content e =
-        subst (λ x. here.last x.to ≤ x.tag + 1) (as_body (DataE content) e)
-        (notes.data_exclusive m.id (ap (λ x. x.body) (as_body (DataE content) e)))
+    pub at_cache : MeetsRows here → (taken : CacheRow) → receiver_of m.body ≡ receiver.Cache taken → IsAtCache s m taken
+    at_cache rows taken is =
+        let body : m.body ≡ body_of taken = says_body m.body (receiver.Cache taken) is in
+        record { body = body; met = meets_cache_row rows taken body; late = cache_late taken body }

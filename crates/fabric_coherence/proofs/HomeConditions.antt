@@ -54,11 +54,12 @@ Finds entry r (row.PutData content) = MayEndPut entry.transaction r
 Finds entry r (row.GrantExclusive content) =
     (entry.transaction ≡ None) × (entry.holder ≡ Itself content) × (count_others entry.sharers r ≡ 0)
 
--- a message has come to its block's home, and is this row there
+-- a message has come to its block's home and is this row there; what it notes is late enough
 pub record IsAtHome (s : Fabric) (m : Message) (taken : HomeRow) : Type 0 where
   pub home : m.to ≡ home_node s m.block
   pub body : m.body ≡ body_by taken
   pub finds : Finds (home_of s m.block) m.from taken
+  pub late : IsNoteInOrder (node_at s m.to).log true m.block (noted_by_home (home_of s m.block) (node_at s m.to).now m.tag taken)
 
 -- the row that is chosen by the entry is one by that body, and finds there what it needs
 module _ (entry : HomeEntry) (r : ℕ) where
@@ -190,22 +191,12 @@ module _ (s : Fabric) (t : GhostState) (m : Message) (flight : IsInFlight s m) w
         = rows.put_data m.id (ap (λ x. x.body) (seen_as (PutData content) is)) in
         may_end_put entry.transaction m.from h.0 (h.1 ∙ sender_seen)
 
-    pub at_home : (message : HomeMessage) → receiver_of m.body ≡ receiver.Home message → IsServed s m message →
-        IsAtHome s m (row_at_home s m message)
-    at_home message is served = record { home = comes_home (ap is_home is); body = body ∙ sym does.0; finds = does.1 }
-      where
-        body : m.body ≡ body_asked message
-        body = says_body m.body (receiver.Home message) is
-
-        does : Chosen entry m.from message (row_at_home s m message)
-        does = chosen entry m.from message served (meets_home_row message body)
-
   -- the notes of the home's side, in the log of the node that the message has come to
   module _ (notes : MeetsNotes here) (home : m.to ≡ home_node s m.block) where
     abbrev last : ℕ
     last = logged_to (node_at s m.to).log true m.block
 
-    pub late_now : last ≤ (node_at s m.to).now + 1
+    late_now : last ≤ (node_at s m.to).now + 1
     late_now = subst (λ n. logged_to (node_at s n).log true m.block ≤ (node_at s n).now + 1) (sym home) notes.take
 
     pub late_fixed : (fixed : ℕ) → m.body ≡ Unblock fixed → kind_open entry.transaction ≡ block.Move → last ≤ fixed + 1
@@ -213,15 +204,29 @@ module _ (s : Fabric) (t : GhostState) (m : Message) (flight : IsInFlight s m) w
         (subst (λ y. here.home_last ≤ y.number + 1) (seen_as (Unblock fixed) is)
         (notes.unblock m.id (ap (λ x. x.body) (seen_as (Unblock fixed) is)) moves))
 
-    pub late_tag : (content : List ℕ) → m.body ≡ PutData content → last ≤ m.tag + 1
+    late_tag : (content : List ℕ) → m.body ≡ PutData content → last ≤ m.tag + 1
     late_tag content is = subst (λ n. logged_to (node_at s n).log true m.block ≤ m.tag + 1) (sym home)
         (subst (λ y. here.home_last ≤ y.tag + 1) (seen_as (PutData content) is)
         (notes.put_data m.id (ap (λ x. x.body) (seen_as (PutData content) is))))
 
-    pub home_late : (taken : HomeRow) → m.body ≡ body_by taken →
+    home_late : (taken : HomeRow) → m.body ≡ body_by taken →
         IsNoteInOrder (node_at s m.to).log true m.block (noted_by_home entry (node_at s m.to).now m.tag taken)
     home_late (row.Take content) is = late_now
     home_late (row.GrantExclusive content) is = late_now
     home_late (row.PutData content) is = late_tag content is
     home_late (row.Unblock fixed) is = late_unblock last entry.transaction entry.holder fixed (late_fixed fixed is)
     home_late _ is = tt
+
+  pub at_home : MeetsRows here → MeetsNotes here → (message : HomeMessage) → receiver_of m.body ≡ receiver.Home message →
+      IsServed s m message → IsAtHome s m (row_at_home s m message)
+  at_home rows notes message is served =
+      record { home = home; body = body ∙ sym does.0; finds = does.1; late = home_late notes home (row_at_home s m message) (body ∙ sym does.0) }
+    where
+      home : m.to ≡ home_node s m.block
+      home = comes_home rows (ap is_home is)
+
+      body : m.body ≡ body_asked message
+      body = says_body m.body (receiver.Home message) is
+
+      does : Chosen entry m.from message (row_at_home s m message)
+      does = chosen entry m.from message served (meets_home_row rows message body)

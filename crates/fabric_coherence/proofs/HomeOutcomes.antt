@@ -56,7 +56,7 @@ module _ (s : Fabric) (t : GhostState) (m : Message) (shape : IsShaped s) (fligh
 
   pub at_home : (message : HomeMessage) → receiver_of m.body ≡ receiver.Home message → IsServed s m message →
       IsAtHome s m (row_at_home s m message)
-  at_home message is served = condition.at_home s t m flight rows message is served
+  at_home message is served = condition.at_home s t m flight rows notes message is served
 
   arrives : (x : Body) → m.body ≡ x → Arrives here m.id (message_seen m x).body
   arrives x is = has_arrived s t m flight reached x is
@@ -67,10 +67,6 @@ module _ (s : Fabric) (t : GhostState) (m : Message) (shape : IsShaped s) (fligh
   listed : (x : Body) → m.body ≡ x → m.to ≡ home_node s m.block →
       Lists (length s.nodes) (other_sharers here m.id) (targets_of s m) (other_count s m)
   listed x is home = other_sharers-listed s t m shape flight home x is (seen_as_sent m x).0 kept.nodes.sharer_low
-
-  -- the notes
-  late_now : m.to ≡ home_node s m.block → logged_to (node_at s m.to).log true m.block ≤ (node_at s m.to).now + 1
-  late_now home = condition.late_now s t m flight notes home
 
   late_fixed : (fixed : ℕ) (transaction : Transaction) → m.body ≡ Unblock fixed → m.to ≡ home_node s m.block →
       (home_of s m.block).transaction ≡ Some transaction → transaction.kind ≡ kind.Move →
@@ -114,7 +110,7 @@ module _ (s : Fabric) (t : GhostState) (m : Message) (shape : IsShaped s) (fligh
     ((arrives GetS at.body, λ p. kind_open (at.finds.0 p)), λ p. is_itself (at.finds.1 p)),
   )
   home-outcome (row.Take content) at = (
-    take-seen s t m shape flight at.home content at.body at.finds.1 (late_now at.home),
+    take-seen s t m shape flight at.home content at.body at.finds.1 at.late,
     (
       (arrives GetM at.body, λ p. kind_open (at.finds.0 p)),
       λ p. is_itself (at.finds.1 p),
@@ -154,12 +150,11 @@ module _ (s : Fabric) (t : GhostState) (m : Message) (shape : IsShaped s) (fligh
     ),
   )
   home-outcome (row.PutData content) at = (
-    put_data-seen s t m shape flight at.home content at.body (names_sender content at.body)
-        (condition.late_tag s t m flight notes at.home content at.body),
+    put_data-seen s t m shape flight at.home content at.body (names_sender content at.body) at.late,
     arrives (PutData content) at.body,
   )
   home-outcome (row.GrantExclusive content) at = (
-    grant_exclusive-seen s t m shape flight at.home content at.body at.finds.1 (late_now at.home),
+    grant_exclusive-seen s t m shape flight at.home content at.body at.finds.1 at.late,
     (
       (arrives GetS at.body, λ p. kind_open (at.finds.0 p)),
       λ p. is_itself (at.finds.1 p),
@@ -181,13 +176,11 @@ module _ (s : Fabric) (t : GhostState) (m : Message) (shape : IsShaped s) (fligh
     pub home-elsewhere : (taken : HomeRow) → IsAtHome s m taken → Passes taken
     home-elsewhere (row.ReadAtHome content) at = read_at_home-elsewhere s t m shape flight e o other content
     home-elsewhere (row.ReadAtOwner owner) at = read_at_owner-elsewhere s t m shape flight e o other owner
-    home-elsewhere (row.Take content) at = take-elsewhere s t m shape flight e o other content (late_now at.home)
+    home-elsewhere (row.Take content) at = take-elsewhere s t m shape flight e o other content at.late
     home-elsewhere (row.MoveOwnership owner) at = move_ownership-elsewhere s t m shape flight e o other owner
     home-elsewhere row.Upgrade at = upgrade-elsewhere s t m shape flight e o other
     home-elsewhere (row.Unblock fixed) at = unblock_passes fixed (home_of s m.block).transaction at.body at.home refl at.finds
     home-elsewhere row.PutBegins at = put_begins-elsewhere s t m shape flight e o other
     home-elsewhere row.PutIsStale at = put_is_stale-elsewhere s t m shape flight e o other
-    home-elsewhere (row.PutData content) at =
-        put_data-elsewhere s t m shape flight e o other content (condition.late_tag s t m flight notes at.home content at.body)
-    home-elsewhere (row.GrantExclusive content) at =
-        grant_exclusive-elsewhere s t m shape flight e o other content (late_now at.home)
+    home-elsewhere (row.PutData content) at = put_data-elsewhere s t m shape flight e o other content at.late
+    home-elsewhere (row.GrantExclusive content) at = grant_exclusive-elsewhere s t m shape flight e o other content at.late

@@ -2,7 +2,6 @@
 use Rattle.std.proofs.Common.{◌≡◌, ◌∙◌, true≢false, ℕ, Bool, true, false, length, refl, sym, Option, Some, None, if◌then◌else◌}
 use Rattle.sn_msg.specs.declared.Message.{Message}
 use Rattle.sn_model.specs.declared.rows.CacheRow.{CacheRow}
-use Rattle.sn_model.specs.declared.rows.CacheRow.TheVariants as row
 use Rattle.sn_model.specs.declared.rows.HomeMessage.{HomeMessage}
 use Rattle.sn_model.specs.declared.rows.Receiver.{Receiver}
 use Rattle.sn_model.specs.declared.rows.Receiver.TheVariants as receiver
@@ -10,7 +9,7 @@ use Rattle.sn_model.specs.Homes.{Transaction}
 use Rattle.sn_model.specs.HomeRows.{MeetsAtHome, is_request, noted_at_home, noted_by_home, noted_for, unless_open}
 use Rattle.sn_model.specs.Fabric.{Fabric, node_at, home_of}
 use Rattle.sn_model.specs.NetEvents.{logged_at}
-use Rattle.sn_model.specs.CacheRows.{MeetsCacheRow, MeetsAtCache, noted_by_cache, noted_at_cache}
+use Rattle.sn_model.specs.CacheRows.{MeetsCacheRow, MeetsAtCache, noted_at_cache}
 use Rattle.sn_model.specs.Receivers.{IsNoteInOrder, receiver_of, is_cache, is_home, comes_to_cache, comes_to_home}
 use Rattle.sn_coherence.specs.Block as block
 use Rattle.sn_coherence.specs.Consequences.{MeetsRows, MeetsNotes}
@@ -20,12 +19,9 @@ use Rattle.fabric_coherence.specs.Steps.{IsInFlight}
 use Rattle.fabric_coherence.specs.Coherent.{FabricInvariant}
 use Rattle.fabric_coherence.specs.HomeEvents.{IsServed, row_at_home}
 use Rattle.fabric_coherence.specs.Met.{MeetsCache, MeetsHome}
-use Rattle.fabric_coherence.proofs.Receivers.{body_of, says_body}
-use Rattle.fabric_coherence.proofs.CacheConditions.{meets_forward_read, meets_forward_write, meets_data_shared, meets_data_modified}
-use Rattle.fabric_coherence.proofs.CacheConditions.{meets_data_exclusive, meets_upgrade_granted, meets_acknowledge, meets_put_go}
-use Rattle.fabric_coherence.proofs.CacheConditions.{meets_put_done, notes_forward_write, notes_put_go, notes_data_modified}
-use Rattle.fabric_coherence.proofs.CacheConditions.{notes_data_exclusive}
-use Rattle.fabric_coherence.proofs.HomeConditions.{IsAtHome, comes_home, meets_home_row, at_home, home_late}
+use Rattle.fabric_coherence.proofs.Receivers.{says_body}
+use Rattle.fabric_coherence.proofs.CacheConditions.{at_cache}
+use Rattle.fabric_coherence.proofs.HomeConditions.{comes_home, meets_home_row, at_home}
 
 module _ (s : Fabric) (t : GhostState) (m : Message) (flight : IsInFlight s m) (kept : FabricInvariant s t) where
   abbrev here : block.Block
@@ -38,35 +34,17 @@ module _ (s : Fabric) (t : GhostState) (m : Message) (flight : IsInFlight s m) (
   notes = kept_meets_notes (length s.nodes) here (kept.blocks m.block flight.block)
 
   -- at the cache
-  pub cache_row : (taken : CacheRow) → m.body ≡ body_of taken → MeetsCacheRow (logged_at s m.to) m.block taken
-  cache_row (row.ForwardRead r) is = meets_forward_read s t m flight rows r is
-  cache_row (row.ForwardWrite r due) is = meets_forward_write s t m flight rows r due is
-  cache_row (row.Invalidate r) is = tt
-  cache_row (row.DataShared content) is = (meets_data_shared s t m flight rows content is).0
-  cache_row (row.DataModified content due) is = meets_data_modified s t m flight rows content due is
-  cache_row (row.UpgradeGranted due) is = meets_upgrade_granted s t m flight rows due is
-  cache_row row.Acknowledge is = meets_acknowledge s t m flight rows is
-  cache_row row.PutGo is = meets_put_go s t m flight rows is
-  cache_row row.PutDone is = meets_put_done s t m flight rows is
-  cache_row (row.DataExclusive content) is = (meets_data_exclusive s t m flight rows content is).0
+  pub cache_row : (taken : CacheRow) → receiver_of m.body ≡ receiver.Cache taken → MeetsCacheRow (logged_at s m.to) m.block taken
+  cache_row taken is = (at_cache s t m flight notes rows taken is).met
 
-  cache_note : (taken : CacheRow) → m.body ≡ body_of taken →
-      IsNoteInOrder (node_at s m.to).log false m.block (noted_by_cache (node_at s m.to).now m.tag taken)
-  cache_note (row.ForwardWrite r due) is = notes_forward_write s t m flight notes r due is
-  cache_note row.PutGo is = notes_put_go s t m flight notes is
-  cache_note (row.DataModified content due) is = notes_data_modified s t m flight notes content due is
-  cache_note (row.DataExclusive content) is = notes_data_exclusive s t m flight notes content is
-  cache_note _ is = tt
-
-  at_cache : (who : Receiver) → receiver_of m.body ≡ who → is_cache who ≡ true →
+  meets_at_cache : (who : Receiver) → receiver_of m.body ≡ who → is_cache who ≡ true →
       MeetsAtCache (logged_at s m.to) m.block who
       × IsNoteInOrder (node_at s m.to).log false m.block (noted_at_cache (node_at s m.to).now m.tag who)
-  at_cache (receiver.Cache taken) is c =
-      let body = says_body m.body (receiver.Cache taken) is in (cache_row taken body, cache_note taken body)
-  at_cache _ is c = absurd (cc)
+  meets_at_cache (receiver.Cache taken) is c = (cache_row taken is, (at_cache s t m flight notes rows taken is).late)
+  meets_at_cache _ is c = absurd (cc)
 
   pub meets_cache : comes_to_cache m.body ≡ true → MeetsCache s m
-  meets_cache c = at_cache (receiver_of m.body) refl c
+  meets_cache c = meets_at_cache (receiver_of m.body) refl c
 
   -- at the home: a request that waits notes nothing
   module _ (message : HomeMessage) (is : receiver_of m.body ≡ receiver.Home message) where
@@ -77,9 +55,7 @@ module _ (s : Fabric) (t : GhostState) (m : Message) (flight : IsInFlight s m) (
     noted = noted_by_home (home_of s m.block) (node_at s m.to).now m.tag (row_at_home s m message)
 
     note_of_done : IsServed s m message → IsLate noted
-    note_of_done served =
-        let at : IsAtHome s m (row_at_home s m message) = at_home s t m flight rows message is served in
-        home_late s t m flight notes at.home (row_at_home s m message) at.body
+    note_of_done served = (at_home s t m flight rows notes message is served).late
 
     by_open : (open_one : Option Transaction) → (home_of s m.block).transaction ≡ open_one → IsLate (unless_open open_one noted)
     by_open None idle = note_of_done (λ h. idle)
@@ -92,12 +68,12 @@ module _ (s : Fabric) (t : GhostState) (m : Message) (flight : IsInFlight s m) (
     home_note : IsLate (noted_for (home_of s m.block) (node_at s m.to).now m message)
     home_note = by_kind (is_request message) refl
 
-  at_its_home : (who : Receiver) → receiver_of m.body ≡ who → is_home who ≡ true →
+  meets_at_home : (who : Receiver) → receiver_of m.body ≡ who → is_home who ≡ true →
       MeetsAtHome (home_of s m.block) m.from who
       × IsNoteInOrder (node_at s m.to).log true m.block (noted_at_home (home_of s m.block) (node_at s m.to).now m who)
-  at_its_home (receiver.Home message) is h =
+  meets_at_home (receiver.Home message) is h =
       (meets_home_row s t m flight rows message (says_body m.body (receiver.Home message) is), home_note message is)
-  at_its_home _ is h = absurd (cc)
+  meets_at_home _ is h = absurd (cc)
 
   pub meets_home : comes_to_home m.body ≡ true → MeetsHome s m
-  meets_home h = let met = at_its_home (receiver_of m.body) refl h in (comes_home s t m flight rows h, met.0, met.1)
+  meets_home h = let met = meets_at_home (receiver_of m.body) refl h in (comes_home s t m flight rows h, met.0, met.1)

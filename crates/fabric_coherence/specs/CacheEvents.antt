@@ -1,8 +1,7 @@
--- Which event of the coherence theorem a row of a cache is, and what that says.
-use Rattle.std.specs.Prelude.{◌≡◌, ◌≢◌, ℕ, length, Option}
+-- Which event of the coherence theorem a row of a cache is, what it leaves, and what becomes of another block.
+use Rattle.std.specs.Prelude.{ℕ, ◌+◌, ◌&&◌, ◌==◌, Option}
 use Rattle.std.specs.Option.{option_map}
 use Rattle.sn_msg.specs.declared.Message.{Message}
-use Rattle.sn_model.specs.Caches.{block_count}
 use Rattle.sn_model.specs.CacheRows.{CacheReply, cache_reply}
 use Rattle.sn_model.specs.declared.net.News.{News}
 use Rattle.sn_model.specs.declared.net.News.TheVariants.{LostCopy}
@@ -12,12 +11,11 @@ use Rattle.sn_model.specs.Fabric.{Fabric, node_at, home_node}
 use Rattle.sn_model.specs.NetEvents.{logged_at}
 use Rattle.sn_coherence.specs.Block.{Block}
 use Rattle.sn_coherence.specs.Events.{Event, ForwardRead, ForwardWrite, Invalidate, DataShared, DataModified, UpgradeGranted, Acknowledge}
-use Rattle.sn_coherence.specs.Events.{PutGoes, PutIsDone, DataExclusive, after}
-use Rattle.fabric_coherence.specs.Recorded.{heard_by}
-use Rattle.fabric_coherence.specs.Leads.{Leads}
+use Rattle.sn_coherence.specs.Events.{PutGoes, PutIsDone, DataExclusive}
+use Rattle.sn_coherence.specs.OtherEvents.{end_miss_elsewhere, end_put_elsewhere}
 use Rattle.fabric_coherence.specs.View.{GhostState, block_seen}
-use Rattle.fabric_coherence.specs.Sends.{OutsWithin}
-use Rattle.fabric_coherence.specs.CacheSeen.{IsOwnRow, IsElsewhere}
+use Rattle.fabric_coherence.specs.Steps.{elsewhere}
+use Rattle.fabric_coherence.specs.CacheSeen.{completed_or_waiting_elsewhere}
 
 -- the event that a row is, of message i
 abbrev pub cache_event : ℕ → CacheRow → Event
@@ -40,15 +38,20 @@ left_at_cache s m taken = cache_reply (logged_at s m.to) (home_node s m.block) m
 abbrev pub told_of : ℕ → Option ℕ → Option News
 told_of n lost = option_map (λ (block : ℕ). LostCopy n block) lost
 
--- a reply of a cache is this event of its own block, and makes of the others these blocks; it says that this copy was lost
-pub record IsCacheEvent (s : Fabric) (t : GhostState) (m : Message) (reply : CacheReply) (event : Event) (others : ℕ → Block)
-    (lost : Option ℕ) : Type 0 where
-  pub own : IsOwnRow s t m reply (after (length s.nodes) (block_seen s t m.block) event)
-  pub leads : Leads (length s.nodes) (block_seen s t m.block) (heard_by (told_of m.to lost) m.block)
-      (after (length s.nodes) (block_seen s t m.block) event)
-  pub passes : (o : ℕ) → o ≢ m.block → IsElsewhere s t m reply (after (length s.nodes) (block_seen s t m.block) event) o (others o)
-  pub passed : (o : ℕ) → o ≢ m.block → Leads (length s.nodes) (block_seen s t o) (heard_by (told_of m.to lost) o) (others o)
-  pub loses : reply.lost ≡ lost
-  -- the cache keeps its lines, and what it sends goes to nodes that are there
-  pub lines : length reply.after.cache.lines ≡ block_count
-  pub sends : OutsWithin reply.sends (length s.nodes)
+-- what another block is after a row
+abbrev pub elsewhere_after : Fabric → GhostState → Message → CacheRow → ℕ → Block
+elsewhere_after s t m (row.ForwardRead r) o = elsewhere (block_seen s t o) m.id 1
+elsewhere_after s t m (row.ForwardWrite r due) o = elsewhere (block_seen s t o) m.id 1
+elsewhere_after s t m (row.Invalidate r) o = elsewhere (block_seen s t o) m.id 1
+elsewhere_after s t m (row.DataShared content) o = end_miss_elsewhere (elsewhere (block_seen s t o) m.id 1) m.to
+elsewhere_after s t m (row.DataModified content due) o =
+    completed_or_waiting_elsewhere (block_seen s t o) m.id m.to (((block_seen s t m.block).miss m.to).acks == due)
+elsewhere_after s t m (row.UpgradeGranted due) o =
+    completed_or_waiting_elsewhere (block_seen s t o) m.id m.to (((block_seen s t m.block).miss m.to).acks == due)
+elsewhere_after s t m row.Acknowledge o =
+    completed_or_waiting_elsewhere (block_seen s t o) m.id m.to
+    (((block_seen s t m.block).miss m.to).is_fixed
+    && (((block_seen s t m.block).miss m.to).acks + 1 == ((block_seen s t m.block).miss m.to).due))
+elsewhere_after s t m row.PutGo o = end_put_elsewhere (elsewhere (block_seen s t o) m.id 1) m.to
+elsewhere_after s t m row.PutDone o = end_put_elsewhere (elsewhere (block_seen s t o) m.id 0) m.to
+elsewhere_after s t m (row.DataExclusive content) o = end_miss_elsewhere (elsewhere (block_seen s t o) m.id 1) m.to
