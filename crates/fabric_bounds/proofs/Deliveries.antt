@@ -23,7 +23,6 @@ use Rattle.fabric_coherence.proofs.InFlight.{in_flight, is_found}
 use Rattle.fabric_coherence.specs.CacheEvents.{left_at_cache}
 use Rattle.fabric_coherence.specs.HomeEvents.{left_at_home, row_at_home}
 use Rattle.fabric_coherence.proofs.EachOutcome.{each_row}
-use Rattle.fabric_coherence.proofs.Receivers.{says_body}
 use Rattle.fabric_coherence.proofs.RowsMet.{cache_row}
 use Rattle.fabric_bounds.specs.Counts.{most_sent}
 use Rattle.fabric_bounds.proofs.Lists.{shorter, taken_out}
@@ -116,7 +115,7 @@ module _ (config : Config) (s : Fabric) (t : GhostState) (id : ℕ) (f : Flight)
   cache_row_step taken is =
       cache_step (left_at_cache s f.message taken)
       (row_small (logged_at s f.message.to) (home_node s f.message.block) f.message.block (node_at s f.message.to).now f.message.tag taken
-      (cache_row s t f.message flight kept taken (says_body f.message.body (receiver.Cache taken) is)))
+      (cache_row s t f.message flight kept taken is))
 
   home_row_step : (taken : HomeRow) → IsStep config s (delivers config s f.message (AtHome (left_at_home s f.message taken)))
   home_row_step taken =

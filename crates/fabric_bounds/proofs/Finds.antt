@@ -1,5 +1,5 @@
 -- A message that brings a line finds the frame of its block.
-use Rattle.std.proofs.Common.{◌≡◌, ℕ, true, Some}
+use Rattle.std.proofs.Common.{◌≡◌, ℕ, true, ap, Some}
 use Rattle.sn_msg.specs.declared.Body.{Body}
 use Rattle.sn_msg.specs.declared.Body.TheVariants.{DataS, DataM, DataE}
 use Rattle.sn_model.specs.declared.cache.Need.TheVariants as need
@@ -7,6 +7,7 @@ use Rattle.sn_model.specs.declared.rows.CacheRow.TheVariants as row
 use Rattle.sn_model.specs.Caches.{takes_frame}
 use Rattle.sn_model.specs.Fabric.{Fabric, Flight, node_at}
 use Rattle.sn_model.specs.Net.{flight_of}
+use Rattle.sn_model.specs.Receivers.{receiver_of}
 use Rattle.fabric_coherence.specs.View.{GhostState}
 use Rattle.fabric_coherence.specs.Coherent.{FabricInvariant}
 use Rattle.fabric_coherence.specs.Steps.{IsInFlight}
@@ -23,11 +24,11 @@ module _ (s : Fabric) (t : GhostState) (id : ℕ) (f : Flight) (kept : FabricInv
       takes_frame (node_at s f.message.to).cache f.message.block ≡ true
   answer_takes (DataS content) is b =
       awaited_takes (node_at s f.message.to).cache f.message.block need.Read
-      (cache_row s t f.message flight kept (row.DataShared content) is).0
+      (cache_row s t f.message flight kept (row.DataShared content) (ap receiver_of is)).0
   answer_takes (DataM content due) is b =
       awaited_takes (node_at s f.message.to).cache f.message.block need.Write
-      (cache_row s t f.message flight kept (row.DataModified content due) is).0
+      (cache_row s t f.message flight kept (row.DataModified content due) (ap receiver_of is)).0
   answer_takes (DataE content) is b =
       awaited_takes (node_at s f.message.to).cache f.message.block need.Read
-      (cache_row s t f.message flight kept (row.DataExclusive content) is).0
+      (cache_row s t f.message flight kept (row.DataExclusive content) (ap receiver_of is)).0
   answer_takes _ is b = absurd (cc)

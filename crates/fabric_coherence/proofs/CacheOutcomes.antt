@@ -1,6 +1,6 @@
 -- A message that is delivered to a cache is an event of its block that the coherence theorem allows there; all that its row
 -- asks for follows from what the theorem keeps.
-use Rattle.std.proofs.Common.{◌≡◌, ◌∙◌, ℕ, ◌<◌, ◌≤◌, Bool, true, false, List, length, refl, ap, subst, nat_eq, ◌≢◌, length-set, slice_set}
+use Rattle.std.proofs.Common.{◌≡◌, ◌∙◌, ℕ, ◌<◌, ◌≤◌, Bool, true, false, length, refl, ap, subst, nat_eq, ◌≢◌, length-set, slice_set}
 use Rattle.std.proofs.Common.{if◌then◌else◌, ◌+◌, ◌&&◌, ◌==◌}
 use Rattle.std.specs.Prelude.{Option, Some, None}
 use Rattle.sn_msg.specs.declared.Message.{Message}

@@ -8,8 +8,7 @@ pub returns-clause-cache : goal.returns-clause-cache
 returns-clause-cache c = λ s t id f taken kept found reached is.
     let flight = in_flight s id f kept.shape found in
     let block = kept.blocks f.message.block flight.block in
-    let does = at_cache s t f.message kept.shape flight block reached taken is in
-    (
+    let does = at_cache s t f.message kept.shape flight block reached taken is in (
       cache-own s t f.message kept.shape flight block reached taken does,
       cache-allowed s t f.message kept.shape flight block reached taken does.body,
     )
