@@ -1,5 +1,5 @@
 -- Which body a message has is said by who takes it; and how its block sees it: whose it is, between the same nodes.
-use Rattle.std.proofs.Common.{◌≡◌, ◌∙◌, not, ◌||◌, refl, sym, ap}
+use Rattle.std.proofs.Common.{◌≡◌, ◌∙◌, refl, sym, ap}
 use Rattle.sn_msg.specs.declared.Message.{Message}
 use Rattle.sn_msg.specs.declared.Body.{Body}
 use Rattle.sn_msg.specs.declared.Body.TheVariants.{GetS, GetM, FwdGetS, FwdGetM, Inv, DataS, DataM, DataE, UpgOk, InvAck, Unblock, PutReq}
@@ -10,9 +10,9 @@ use Rattle.sn_model.specs.declared.rows.HomeMessage.{HomeMessage}
 use Rattle.sn_model.specs.declared.rows.HomeMessage.TheVariants as asked
 use Rattle.sn_model.specs.declared.rows.Receiver.{Receiver}
 use Rattle.sn_model.specs.declared.rows.Receiver.TheVariants as receiver
-use Rattle.sn_model.specs.Receivers.{receiver_of, comes_to_cache, comes_to_home}
+use Rattle.sn_model.specs.Receivers.{receiver_of, comes_to_home}
 use Rattle.sn_coherence.specs.Block.{is_to_home}
-use Rattle.fabric_coherence.specs.View.{message_seen, is_for_all}
+use Rattle.fabric_coherence.specs.View.{message_seen}
 
 -- the body of a row of a cache, of what comes to a home, and of what each receiver takes
 abbrev pub body_of : CacheRow → Body
@@ -47,16 +47,14 @@ body_is _ = refl
 pub says_body : (x : Body) (who : Receiver) → receiver_of x ≡ who → x ≡ body_for who
 says_body x who is = sym (body_is x) ∙ ap body_for is
 
--- as its block sees it, a message goes between the same nodes with the same tag, and is to a home, or is seen by every block, where its
--- receiver says so
+-- as its block sees it, a message goes between the same nodes with the same tag, and it is to a home where its receiver is one
 abbrev pub IsSeenAsSent : Message → Body → Type 0
 IsSeenAsSent m x =
     ((message_seen m x).from ≡ m.from)
     × ((message_seen m x).to ≡ m.to)
     × ((message_seen m x).tag ≡ m.tag)
     × (is_to_home (message_seen m x).body ≡ comes_to_home x)
-    × (is_for_all x ≡ not (comes_to_cache x || comes_to_home x))
 
 pub seen_as_sent : (m : Message) (x : Body) → IsSeenAsSent m x
-seen_as_sent m GetS = (refl, refl, refl, refl, refl)
-seen_as_sent m _ = (refl, refl, refl, refl, refl)
+seen_as_sent m GetS = (refl, refl, refl, refl)
+seen_as_sent m _ = (refl, refl, refl, refl)

@@ -1,5 +1,5 @@
 -- The fabric as one block sees it: each field of the coherence theorem's block, read off the fabric's lists.
-use Rattle.std.specs.Prelude.{ℕ, Bool, true, false, ◌&&◌, ◌||◌, nat_eq, if◌then◌else◌, List, [], ◌∷◌, slice_index_or, Option, Some, None}
+use Rattle.std.specs.Prelude.{ℕ, Bool, true, false, not, ◌&&◌, ◌||◌, nat_eq, if◌then◌else◌, List, [], ◌∷◌, slice_index_or, Option, Some, None}
 use Rattle.std.specs.Prelude.{is_some}
 use Rattle.sn_msg.specs.declared.Message.{Message}
 use Rattle.sn_msg.specs.declared.Body.{Body}
@@ -15,6 +15,7 @@ use Rattle.sn_model.specs.declared.home.Kind.TheVariants as kind
 use Rattle.sn_model.specs.Caches.{Line, Miss, Put, line_of, is_owned}
 use Rattle.sn_model.specs.Homes.{Holder, Itself, OfCache, Transaction}
 use Rattle.sn_model.specs.Fabric.{Fabric, Flight, node_at, home_of, home_node}
+use Rattle.sn_model.specs.Receivers.{comes_to_cache, comes_to_home}
 use Rattle.sn_coherence.specs.Block as block
 use Rattle.sn_coherence.specs.Log.{was_owned, old_content, was_home, old_cache, told_at}
 
@@ -119,11 +120,9 @@ message_seen m PutDone = block.plain block.PutDone m.from m.to m.tag
 message_seen m (Ready k) = block.with_number block.Ready m.from m.to m.tag k
 message_seen m (Advance k) = block.with_number block.Advance m.from m.to m.tag k
 
--- whether every block sees a message
+-- whether every block sees a message: one that comes to no cache and to no home
 abbrev pub is_for_all : Body → Bool
-is_for_all (Ready k) = true
-is_for_all (Advance k) = true
-is_for_all _ = false
+is_for_all body = not (comes_to_cache body || comes_to_home body)
 
 abbrev pub is_seen : ℕ → Message → Bool
 is_seen b m = is_for_all m.body || nat_eq m.block b
