@@ -101,6 +101,22 @@ begins word line = bytes_eq (take (length word) line) word
 abbrev pub after : List ℕ → List ℕ → List ℕ
 after word line = drop (length word) line
 
+-- the event of a switch, of a block or of input
+abbrev pub other_event_of : ℕ → List ℕ → Result Event Fault
+other_event_of nodes line =
+    if begins (codes "kill ") line then event_said Kill (switch_in nodes (after (codes "kill ") line))
+    else if begins (codes "evict ") line then eviction_in nodes (after (codes "evict ") line)
+    else if begins (codes "input ") line then input_in nodes (after (codes "input ") line)
+    else Err NotOfForm
+
+-- the event of a message, or another
+abbrev pub message_event_of : ℕ → List ℕ → Result Event Fault
+message_event_of nodes line =
+    if begins (codes "hop ") line then event_said Hop (message_in (after (codes "hop ") line))
+    else if begins (codes "deliver ") line then event_said Deliver (message_in (after (codes "deliver ") line))
+    else if begins (codes "lose ") line then event_said Lose (message_in (after (codes "lose ") line))
+    else other_event_of nodes line
+
 -- the event that a line says, in a machine of so many nodes
 unfoldable pub event_of : ℕ → List ℕ → Result Event Fault
 event_of nodes line =
@@ -109,13 +125,7 @@ event_of nodes line =
     else if begins (codes "step ") line then event_said Step (node_in nodes (after (codes "step ") line))
     else if begins (codes "edge ") line then event_said Edge (node_in nodes (after (codes "edge ") line))
     else if begins (codes "report ") line then event_said Report (node_in nodes (after (codes "report ") line))
-    else if begins (codes "hop ") line then event_said Hop (message_in (after (codes "hop ") line))
-    else if begins (codes "deliver ") line then event_said Deliver (message_in (after (codes "deliver ") line))
-    else if begins (codes "lose ") line then event_said Lose (message_in (after (codes "lose ") line))
-    else if begins (codes "kill ") line then event_said Kill (switch_in nodes (after (codes "kill ") line))
-    else if begins (codes "evict ") line then eviction_in nodes (after (codes "evict ") line)
-    else if begins (codes "input ") line then input_in nodes (after (codes "input ") line)
-    else Err NotOfForm
+    else message_event_of nodes line
 
 -- the events of a script, or the first cause for which it is refused
 abbrev pub script_of : ℕ → List ℕ → Result (List Event) ScriptCause

@@ -23,7 +23,7 @@ pub enum ScriptCause {
 }
 
 /// Why there is nothing to give: the text is refused, or memory is lacking.
-#[derive(Clone, Copy, PartialEq, Eq, Debug)]
+#[derive(Clone, Copy, Debug)]
 pub enum ScriptFault {
     Refused(ScriptCause),
     Memory,

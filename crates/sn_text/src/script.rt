@@ -1,7 +1,7 @@
 //! Reads scripts: one event a line.
 ghost use Rattle.std.specs.Prelude.{◌≡◌, ◌<◌, ◌≤◌, ◌^◌, true, false, All, IfOk, IfErr, MatchOption, length, Ok};
 ghost use Rattle.sn_base.specs.Events.{event_fits, block_fits};
-ghost use Rattle.sn_text.specs.Script.{begins, after, event_of, script_of};
+ghost use Rattle.sn_text.specs.Script.{begins, after, other_event_of, message_event_of, event_of, script_of};
 ghost use Rattle.sn_text.specs.Items.{IsRefusedAs};
 ghost use Rattle.sn_base.specs.declared.limits.TheConstants.{EVENTS};
 
@@ -18,6 +18,42 @@ pub fn rest_after<'a>(line: &'a [u8], word: &str) -> Option<&'a [u8]>
         (λ rest. (begins word.now line.now ≡ true) × (rest.now ≡ after word.now line.now)) }
 {
     line.strip_prefix(word.as_bytes())
+}
+
+// The event of a switch, of a block or of input.
+fn other_event_in(nodes: u8, line: &[u8]) -> Result<Event, Fault>
+    requires few { nodes ≤ 16 }
+    ensures same { result ≡ other_event_of nodes line.now }
+    ensures fits { IfOk result (λ event. event_fits nodes event ≡ true) }
+    ensures block { IfOk result (λ event. block_fits event ≡ true) }
+{
+    if let Some(switch) = rest_after(line, "kill ") {
+        switch_in(nodes, switch).map(Event::Kill)
+    } else if let Some(words) = rest_after(line, "evict ") {
+        eviction_in(nodes, words)
+    } else if let Some(words) = rest_after(line, "input ") {
+        input_in(nodes, words)
+    } else {
+        Err(Fault::NotOfForm)
+    }
+}
+
+// The event of a message, or another.
+fn message_event_in(nodes: u8, line: &[u8]) -> Result<Event, Fault>
+    requires few { nodes ≤ 16 }
+    ensures same { result ≡ message_event_of nodes line.now }
+    ensures fits { IfOk result (λ event. event_fits nodes event ≡ true) }
+    ensures block { IfOk result (λ event. block_fits event ≡ true) }
+{
+    if let Some(id) = rest_after(line, "hop ") {
+        message_in(id).map(Event::Hop)
+    } else if let Some(id) = rest_after(line, "deliver ") {
+        message_in(id).map(Event::Deliver)
+    } else if let Some(id) = rest_after(line, "lose ") {
+        message_in(id).map(Event::Lose)
+    } else {
+        other_event_in(nodes, line)
+    }
 }
 
 /// The event that a line of a script says, on a machine of so many nodes. A line of no such form is refused before one that
@@ -39,20 +75,8 @@ pub fn event_in(nodes: u8, line: &[u8]) -> Result<Event, Fault>
         node_in(nodes, node).map(Event::Edge)
     } else if let Some(node) = rest_after(line, "report ") {
         node_in(nodes, node).map(Event::Report)
-    } else if let Some(id) = rest_after(line, "hop ") {
-        message_in(id).map(Event::Hop)
-    } else if let Some(id) = rest_after(line, "deliver ") {
-        message_in(id).map(Event::Deliver)
-    } else if let Some(id) = rest_after(line, "lose ") {
-        message_in(id).map(Event::Lose)
-    } else if let Some(switch) = rest_after(line, "kill ") {
-        switch_in(nodes, switch).map(Event::Kill)
-    } else if let Some(words) = rest_after(line, "evict ") {
-        eviction_in(nodes, words)
-    } else if let Some(words) = rest_after(line, "input ") {
-        input_in(nodes, words)
     } else {
-        Err(Fault::NotOfForm)
+        message_event_in(nodes, line)
     }
 }
 
