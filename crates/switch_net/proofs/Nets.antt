@@ -155,6 +155,13 @@ pub none-copied : (r : Option (Bor Flight)) (o : Option Flight) → is_some r �
 none-copied None o h e = sym e
 none-copied (Some f) o h e = absurd (false≢true (sym h))
 
+pub none-there : {r o : Option Flight} → r ≡ o → is_some r ≡ false → o ≡ None
+none-there {r} e h = sym e ∙ none_of r h
+  where
+    none_of : (r : Option Flight) → is_some r ≡ false → r ≡ None
+    none_of None h = refl
+    none_of (Some f) h = absurd (false≢true (sym h))
+
 -- a list without a number that isn't in it
 without_step : (b : Bool) (f : Flight) (fs rest : List Flight) → cond b (Some f) None ≡ None → rest ≡ fs →
     cond (not b) (f ∷ rest) rest ≡ f ∷ fs

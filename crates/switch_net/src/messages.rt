@@ -6,7 +6,7 @@
 ghost use Rattle.std.specs.Prelude.{nat_eq, not, true, false, ◌≡◌, ◌<◌, ◌++◌, [], ◌∷◌, None, Some, length, slice_get, IfOk, vec_capacity};
 ghost use Rattle.std.specs.Prelude.{◌≤◌, ◌==◌};
 ghost use Rattle.std.specs.List.{position, filter};
-ghost use Rattle.std.specs.Option.{option_copied};
+ghost use Rattle.std.specs.Option.{option_copied, option_or};
 ghost use Rattle.indexmap.specs.IndexMap.{get, insert_entry, shift_remove_entry};
 ghost use Rattle.switch_net.specs.Net.{find_flight, without, outside, flights_with_move};
 
@@ -69,11 +69,15 @@ fn keep<T: Copy>(list: &mut Vec<T>, value: &T)
     list.push(*value).unwrap();
 }
 
-fn drop_number(flights: &mut Vec<Flight>, id: MsgId)
+/// Takes the message of a number out of a list, where it is there.
+fn take_from(flights: &mut Vec<Flight>, id: MsgId) -> Option<Flight>
+    ensures taken { result ≡ find_flight flights.old.items id }
     ensures others { flights.new.items ≡ without flights.old.items id }
     ensures room { vec_capacity flights.old ≤ vec_capacity flights.new }
 {
+    let found = find_in(flights.as_slice(), id).copied();
     flights.retain(|flight| flight.message.id != id);
+    found
 }
 
 fn drop_in(flights: &mut Vec<Flight>, switch: SwitchId)
@@ -83,11 +87,13 @@ fn drop_in(flights: &mut Vec<Flight>, switch: SwitchId)
     flights.retain(|flight| flight.at != switch);
 }
 
-fn drop_numbered(numbered: &mut IndexMap<MsgId, Flight>, id: MsgId)
+/// Takes the message of a number out of the map, where it is there.
+fn take_numbered(numbered: &mut IndexMap<MsgId, Flight>, id: MsgId) -> Option<Flight>
+    ensures taken { result ≡ get nat_eq numbered.old id }
     ensures others { numbered.new.entries ≡ shift_remove_entry (nat_eq id) numbered.old.entries }
     ensures gone { get nat_eq numbered.new id ≡ None }
 {
-    let _ = numbered.shift_remove(&id);
+    numbered.shift_remove(&id)
 }
 
 fn drop_numbered_in(numbered: &mut IndexMap<MsgId, Flight>, switch: SwitchId)
@@ -104,6 +110,16 @@ fn find_in(flights: &[Flight], id: MsgId) -> Option<&Flight>
     ensures { option_copied result ≡ find_flight flights.now id }
 {
     flights.iter().find(|flight| flight.message.id == id)
+}
+
+/// The first of two that is there.
+fn first_of(first: Option<Flight>, second: Option<Flight>) -> Option<Flight>
+    ensures { result ≡ option_or first second }
+{
+    match first {
+        Some(flight) => Some(flight),
+        None => second,
+    }
 }
 
 impl Messages {
@@ -157,11 +173,14 @@ impl Messages {
         keep(&mut self.beside, flight);
     }
 
-    pub fn remove(&mut self, id: MsgId)
-        ensures { self.new ≡ without self.old id }
+    /// Takes a message out, where it is there.
+    pub fn remove(&mut self, id: MsgId) -> Option<Flight>
+        ensures removed { result ≡ find_flight self.old id }
+        ensures others { self.new ≡ without self.old id }
     {
-        drop_numbered(&mut self.numbered, id);
-        drop_number(&mut self.beside, id);
+        let numbered = take_numbered(&mut self.numbered, id);
+        let beside = take_from(&mut self.beside, id);
+        first_of(numbered, beside)
     }
 
     pub fn put(&mut self, id: MsgId, switch: SwitchId)

@@ -2,7 +2,7 @@
 ghost use Rattle.std.specs.Prelude.{◌≡◌, ℕ, ◌+◌, ◌-◌, ◌*◌, ◌<◌, ◌≤◌, ◌^◌, ◌↔◌, Bool, true, false, not, Option, Some, None, Ok, Err, IsNone};
 ghost use Rattle.std.specs.Prelude.{IsSome, IfSome, IsOk, OnErr, IfOk, IfErr, IsTrue, MatchResult, List, [], length, replicate, slice_get};
 ghost use Rattle.std.specs.Prelude.{slice_set};
-ghost use Rattle.std.specs.Option.{option_copied};
+ghost use Rattle.std.specs.Option.{option_copied, option_map};
 ghost use Rattle.route_plan.specs.Distances.{is_dead, is_living};
 ghost use Rattle.route_plan.specs.Routes.{first_cut_off};
 ghost use Rattle.route_plan.specs.Paths.{AreJoined, IsFirstCutOff};
@@ -118,10 +118,11 @@ impl Net {
         self.messages.find(id)
     }
 
-    fn remove(&mut self, id: MsgId)
-        ensures { self.new ≡ record self.old { flights = without self.old.flights id } }
+    fn remove(&mut self, id: MsgId) -> Option<Flight>
+        ensures removed { result ≡ find_flight self.old.flights id }
+        ensures others { self.new ≡ record self.old { flights = without self.old.flights id } }
     {
-        self.messages.remove(id);
+        self.messages.remove(id)
     }
 
     fn put_into(&mut self, id: MsgId, switch: SwitchId)
@@ -158,14 +159,31 @@ impl Net {
             block,
             body,
         };
-        let at = self.routes.enter(from, to);
+        self.post(&message)
+    }
+
+    /// Sends a message that has the next number. False where its entry switch is dead: then it is lost at once.
+    pub fn post(&mut self, message: &Message) -> bool
+        requires number { message.now.id ≡ self.old.next }
+        requires room { length self.old.flights < 1024 }
+        requires numbers { self.old.next + 1 < 2 ^ 64 }
+        requires sender { message.now.from < self.old.routes.nodes }
+        requires receiver { message.now.to < self.old.routes.nodes }
+        ensures sent { self.new ≡ after_send self.old message.now }
+        ensures lost { result ≡ not (is_dead self.old.dead (entry_of self.old message.now)) }
+    {
+        let at = self.routes.enter(message.from, message.to);
         self.next += 1;
         if self.dead.has(at) {
             return false;
         }
-        self.messages.push(&Flight { message, at });
+        self.messages.push(&Flight {
+            message: *message,
+            at,
+        });
         true
     }
+
     /// The switch to which a message goes on. None where it has arrived.
     fn next_switch(&self, flight: &Flight) -> Option<SwitchId>
         requires { IsPlaced self.now.routes flight.now }
@@ -202,7 +220,7 @@ impl Net {
             return HopAnswer::Arrived;
         };
         if self.dead.has(next) {
-            self.remove(id);
+            let _ = self.remove(id);
             HopAnswer::LostInDead
         } else {
             self.put_into(id, next);
@@ -232,8 +250,20 @@ impl Net {
         ensures refused { OnErr result (self.new ≡ self.old) }
     {
         let message = *self.look(id)?;
-        self.remove(id);
+        let _ = self.remove(id);
         Ok(message)
+    }
+
+    /// Takes a message out that is in flight, wherever it stands.
+    pub fn take_out(&mut self, id: MsgId) -> Message
+        requires there { IsSome (find_flight self.old.flights id) }
+        ensures message { option_map (λ f. f.message) (find_flight self.old.flights id) ≡ Some result }
+        ensures taken { self.new ≡ record self.old { flights = without self.old.flights id } }
+    {
+        match self.remove(id) {
+            Some(flight) => flight.message,
+            None => unreachable!(),
+        }
     }
 
     /// Loses a message. False where none in flight has this number.
@@ -242,11 +272,7 @@ impl Net {
         ensures lost { self.new ≡ record self.old { flights = without self.old.flights id } }
         ensures absent { result ≡ false → self.new ≡ self.old }
     {
-        if self.found(id).is_none() {
-            return false;
-        }
-        self.remove(id);
-        true
+        self.remove(id).is_some()
     }
 
     /// A switch dies, and the messages in it are lost. False where it is dead already.

@@ -1,6 +1,7 @@
-use Rattle.std.proofs.Common.{refl}
+use Rattle.std.proofs.Common.{ℕ, ap, ◌∙◌}
+use Rattle.switch_net.specs.Net.{find_flight}
 use Rattle.switch_net.proofs.Nets.{net-next, net-push, find-next}
-use Rattle.switch_net.proofs.net.Net.send.Goals as goal
+use Rattle.switch_net.proofs.net.Net.post.Goals as goal
 
 pub invariant_of-self : goal.invariant_of-self
 invariant_of-self c = (net-next _ c.self.invariant.0, c.self.invariant.1)
@@ -8,7 +9,7 @@ invariant_of-self c = (net-next _ c.self.invariant.0, c.self.invariant.1)
 pub invariant_of-self-2 : goal.invariant_of-self-2
 invariant_of-self-2 c =
     rw c.push.ensures (
-      net-push _ _ c.self.invariant.0 (rw (← c.self.view_is) at c.requires.room) refl
+      net-push _ _ c.self.invariant.0 (rw (← c.self.view_is) at c.requires.room) (rw (← c.self.view_is) at c.requires.number)
           (record {
             from = rw (← c.self.view_is) at c.requires.sender;
             to = rw (← c.self.view_is) at c.requires.receiver;
@@ -18,4 +19,6 @@ invariant_of-self-2 c =
     )
 
 pub push-requires-clause-new : goal.push-requires-clause-new
-push-requires-clause-new c = find-next 1 c.self.inside.next c.self.inside.messages c.self.invariant.0.numbered
+push-requires-clause-new c =
+    ap (λ (id : ℕ). find_flight c.self.inside.messages id) (rw (← c.self.view_is) at c.requires.number)
+    ∙ find-next 1 c.self.inside.next c.self.inside.messages c.self.invariant.0.numbered
