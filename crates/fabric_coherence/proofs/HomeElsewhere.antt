@@ -1,13 +1,15 @@
 -- Each row of a home is, for another block, a loss of the message and new numbers.
-use Rattle.std.proofs.Common.{◌≡◌, ◌≢◌, inr, ℕ, ◌+◌, ◌≤◌, Bool, true, List, refl, sym, subst, arith}
-use Rattle.std.specs.Prelude.{Some}
+use Rattle.std.proofs.Common.{◌≡◌, ◌≢◌, inr, ℕ, ◌+◌, ◌≤◌, Bool, true, false, List, refl, arith}
+use Rattle.std.specs.Prelude.{Option, Some, None, IfSome}
 use Rattle.log_buffer.specs.Log.{LogEntry, Old, log_with_note, logged_to, is_home_side}
 use Rattle.sn_base.specs.declared.log.Old.TheVariants.{WasHome, WasCache}
 use Rattle.sn_msg.specs.declared.Message.{Message}
 use Rattle.sn_model.specs.declared.home.Kind.{Kind}
 use Rattle.sn_model.specs.declared.home.Kind.TheVariants as kind
+use Rattle.sn_model.specs.declared.rows.HomeRow.{HomeRow}
+use Rattle.sn_model.specs.declared.rows.HomeRow.TheVariants as row
 use Rattle.sn_model.specs.Homes.{Holder, Itself, OfCache, Transaction}
-use Rattle.sn_model.specs.HomeRows as row
+use Rattle.sn_model.specs.HomeRows.{others, unblock, unblock_of, noted_owner, noted_by_end, noted_by_unblock}
 use Rattle.sn_model.specs.Fabric.{Fabric, node_at, home_of}
 use Rattle.sn_model.specs.NetEvents.{kept_at}
 use Rattle.sn_coherence.specs.Block.{Block}
@@ -15,10 +17,13 @@ use Rattle.sn_coherence.specs.Log.{was_home, old_cache, old_content}
 use Rattle.sn_coherence.proofs.Log.{note_law}
 use Rattle.fabric_coherence.specs.View.{GhostState}
 use Rattle.fabric_coherence.specs.Steps.{IsShaped, IsInFlight}
-use Rattle.fabric_coherence.specs.HomeSeen.{IsSameHome, IsHomeElsewhere}
+use Rattle.fabric_coherence.specs.Sends.{NoneForAll}
+use Rattle.fabric_coherence.specs.HomeEvents.{left_at_home}
+use Rattle.fabric_coherence.specs.HomeSeen.{IsSameCaches, IsSameHome, IsHomeElsewhere}
 use Rattle.fabric_coherence.proofs.NetSends.{none-invalidations}
+use Rattle.fabric_coherence.proofs.HomeConditions.{IsAtHome}
 use Rattle.fabric_coherence.proofs.HomeSeen.{other-seen}
-use Rattle.fabric_coherence.proofs.HomeRows.{same_caches, caches-noted, caches-noted_owner}
+use Rattle.fabric_coherence.proofs.HomeRows.{same_caches, caches-noted}
 
 -- a note of a block says nothing of another
 same_home : (log : List LogEntry) (b : ℕ) → IsSameHome log log b
@@ -33,100 +38,68 @@ home-noted log k b old l o n = record {
   home_last = (note_law Bool was_home log k b old (was_home old) true l refl).others_newest true o (inr n);
 }
 
-home-noted_owner : (log : List LogEntry) (k b : ℕ) (holder : Holder) → logged_to log true b ≤ k + 1 → (o : ℕ) → o ≢ b →
-    IsSameHome (row.noted_owner log k b holder) log o
-home-noted_owner log k b (Itself content) l o n = same_home log o
-home-noted_owner log k b (OfCache owner) l o n = home-noted log k b (WasCache owner) l o n
+module _ (s : Fabric) (m : Message) (o : ℕ) (other : o ≢ m.block) where
+  abbrev log : List LogEntry
+  log = (node_at s m.to).log
 
-module _ (s : Fabric) (t : GhostState) (m : Message) (shape : IsShaped s) (flight : IsInFlight s m) (e : Block) (o : ℕ) (other : o ≢ m.block) where
-  pub read_at_home-elsewhere : (content : List ℕ) →
-      IsHomeElsewhere s t m (row.read_at_home (kept_at s m.to m.block) (node_at s m.to).now m.from content) e o
-  read_at_home-elsewhere content =
-      other-seen s m (row.read_at_home (kept_at s m.to m.block)
-      (node_at s m.to).now m.from content) shape flight.to flight.block t e o other
-      (same_caches (node_at s m.to).log o) (same_home (node_at s m.to).log o) (refl, tt)
+  abbrev holder : Holder
+  holder = (home_of s m.block).holder
 
-  pub read_at_owner-elsewhere : (owner : ℕ) →
-      IsHomeElsewhere s t m (row.read_at_owner (kept_at s m.to m.block) (node_at s m.to).now m.from owner) e o
-  read_at_owner-elsewhere owner =
-      other-seen s m (row.read_at_owner (kept_at s m.to m.block) (node_at s m.to).now m.from owner) shape flight.to flight.block t e o other
-      (same_caches (node_at s m.to).log o) (same_home (node_at s m.to).log o) (refl, tt)
+  -- what the log says of the other block stays
+  abbrev Stays : List LogEntry → Type 0
+  Stays after = IsSameCaches after log o × IsSameHome after log o
 
-  pub take-elsewhere : (content : List ℕ) → logged_to (node_at s m.to).log true m.block ≤ (node_at s m.to).now + 1 →
-      IsHomeElsewhere s t m (row.take (kept_at s m.to m.block) m.block (node_at s m.to).now m.from content) e o
-  take-elsewhere content late =
-      other-seen s m (row.take (kept_at s m.to m.block) m.block
-      (node_at s m.to).now m.from content) shape flight.to flight.block t e o other
-      (caches-noted (node_at s m.to).log (node_at s m.to).now m.block (WasHome content) (λ h. grind (arith, h)) late o)
-      (home-noted (node_at s m.to).log (node_at s m.to).now m.block (WasHome content) late o other)
-      (refl, none-invalidations 0 (row.others (home_of s m.block).sharers m.from) m.from)
+  as_it_was : Stays log
+  as_it_was = (same_caches log o, same_home log o)
 
-  pub move_ownership-elsewhere : (owner : ℕ) →
-      IsHomeElsewhere s t m (row.move_ownership (kept_at s m.to m.block) (node_at s m.to).now m.from owner) e o
-  move_ownership-elsewhere owner =
-      other-seen s m (row.move_ownership (kept_at s m.to m.block)
-      (node_at s m.to).now m.from owner) shape flight.to flight.block t e o other
-      (same_caches (node_at s m.to).log o) (same_home (node_at s m.to).log o)
-      (refl, none-invalidations 0 (row.others (home_of s m.block).sharers m.from) m.from)
+  noted : (k : ℕ) (old : Old) → false ≢ is_home_side old → logged_to log (is_home_side old) m.block ≤ k + 1 →
+      Stays (log_with_note log k m.block old)
+  noted k old side late = (caches-noted log k m.block old side late o, home-noted log k m.block old late o other)
 
-  pub upgrade-elsewhere : IsHomeElsewhere s t m (row.upgrade (kept_at s m.to m.block) (node_at s m.to).now m.from) e o
-  upgrade-elsewhere =
-      other-seen s m (row.upgrade (kept_at s m.to m.block) (node_at s m.to).now m.from) shape flight.to flight.block t e o other
-      (same_caches (node_at s m.to).log o) (same_home (node_at s m.to).log o)
-      (refl, none-invalidations 0 (row.others (home_of s m.block).sharers m.from) m.from)
+  -- at the end of a transaction
+  module _ (fixed : ℕ) where
+    abbrev IsLate : Option ℕ → Type 0
+    IsLate interval = IfSome interval (λ i. logged_to log true m.block ≤ i + 1)
 
-  pub put_begins-elsewhere : IsHomeElsewhere s t m (row.put_begins (kept_at s m.to m.block) (node_at s m.to).now m.from) e o
-  put_begins-elsewhere =
-      other-seen s m (row.put_begins (kept_at s m.to m.block) (node_at s m.to).now m.from) shape flight.to flight.block t e o other
-      (same_caches (node_at s m.to).log o) (same_home (node_at s m.to).log o) (refl, tt)
+    owner_noted : (h : Holder) → IsLate (noted_by_end kind.Move h fixed) → Stays (noted_owner log fixed m.block h)
+    owner_noted (Itself content) late = as_it_was
+    owner_noted (OfCache owner) late = noted fixed (WasCache owner) (λ h. grind (arith, h)) late
 
-  pub put_is_stale-elsewhere : IsHomeElsewhere s t m (row.put_is_stale (kept_at s m.to m.block) m.from) e o
-  put_is_stale-elsewhere = other-seen s m (row.put_is_stale (kept_at s m.to m.block) m.from) shape flight.to flight.block t e o other
-      (same_caches (node_at s m.to).log o) (same_home (node_at s m.to).log o) (refl, tt)
+    ended : (k : Kind) (r : ℕ) → IsLate (noted_by_end k holder fixed) → Stays (unblock_of (kept_at s m.to m.block) m.block fixed k r).log
+    ended kind.Move r late = owner_noted holder late
+    ended _ r late = as_it_was
 
-  pub put_data-elsewhere : (content : List ℕ) → logged_to (node_at s m.to).log true m.block ≤ m.tag + 1 →
-      IsHomeElsewhere s t m (row.put_data (kept_at s m.to m.block) m.block m.tag m.from content) e o
-  put_data-elsewhere content late =
-      other-seen s m (row.put_data (kept_at s m.to m.block) m.block m.tag m.from content) shape flight.to flight.block t e o other
-      (caches-noted (node_at s m.to).log m.tag m.block (WasCache m.from) (λ h. grind (arith, h)) late o)
-      (home-noted (node_at s m.to).log m.tag m.block (WasCache m.from) late o other) tt
+    unblocked : (open_one : Option Transaction) → IsLate (noted_by_unblock open_one holder fixed) →
+        Stays (unblock (kept_at s m.to m.block) m.block fixed open_one).after.log
+    unblocked None late = as_it_was
+    unblocked (Some transaction) late = ended transaction.kind transaction.requester late
 
-  pub grant_exclusive-elsewhere : (content : List ℕ) → logged_to (node_at s m.to).log true m.block ≤ (node_at s m.to).now + 1 →
-      IsHomeElsewhere s t m (row.grant_exclusive (kept_at s m.to m.block) m.block (node_at s m.to).now m.from content) e o
-  grant_exclusive-elsewhere content late =
-      other-seen s m (row.grant_exclusive (kept_at s m.to m.block) m.block
-      (node_at s m.to).now m.from content) shape flight.to flight.block t e o other
-      (caches-noted (node_at s m.to).log (node_at s m.to).now m.block (WasHome content) (λ h. grind (arith, h)) late o)
-      (home-noted (node_at s m.to).log (node_at s m.to).now m.block (WasHome content) late o other) (refl, tt)
+    sends_nothing : (open_one : Option Transaction) → NoneForAll (unblock (kept_at s m.to m.block) m.block fixed open_one).sends
+    sends_nothing None = tt
+    sends_nothing (Some transaction) = tt
 
-  unblock_by : (fixed r begun : ℕ) (k : Kind) → (k ≡ kind.Move → logged_to (node_at s m.to).log true m.block ≤ fixed + 1) →
-      IsHomeElsewhere s t m (row.unblock (kept_at s m.to m.block) m.block fixed
-      (Some (record { kind = k; requester = r; begun = begun }))) e o
-  unblock_by fixed r begun kind.Move late =
-      other-seen s m (row.unblock (kept_at s m.to m.block) m.block fixed
-      (Some (record { kind = kind.Move; requester = r; begun = begun }))) shape flight.to flight.block t e o other
-      (caches-noted_owner (node_at s m.to).log fixed m.block (home_of s m.block).holder (late refl) o)
-      (home-noted_owner (node_at s m.to).log fixed m.block (home_of s m.block).holder (late refl) o other) tt
-  unblock_by fixed r begun kind.Read late =
-      other-seen s m (row.unblock (kept_at s m.to m.block) m.block fixed
-      (Some (record { kind = kind.Read; requester = r; begun = begun }))) shape flight.to flight.block t e o other
-      (same_caches (node_at s m.to).log o) (same_home (node_at s m.to).log o) tt
-  unblock_by fixed r begun kind.Take late =
-      other-seen s m (row.unblock (kept_at s m.to m.block) m.block fixed
-      (Some (record { kind = kind.Take; requester = r; begun = begun }))) shape flight.to flight.block t e o other
-      (same_caches (node_at s m.to).log o) (same_home (node_at s m.to).log o) tt
-  unblock_by fixed r begun kind.Upgrade late =
-      other-seen s m (row.unblock (kept_at s m.to m.block) m.block fixed
-      (Some (record { kind = kind.Upgrade; requester = r; begun = begun }))) shape flight.to flight.block t e o other
-      (same_caches (node_at s m.to).log o) (same_home (node_at s m.to).log o) tt
-  unblock_by fixed r begun kind.Put late =
-      other-seen s m (row.unblock (kept_at s m.to m.block) m.block fixed
-      (Some (record { kind = kind.Put; requester = r; begun = begun }))) shape flight.to flight.block t e o other
-      (same_caches (node_at s m.to).log o) (same_home (node_at s m.to).log o) tt
+  log_stays : (taken : HomeRow) → IsAtHome s m taken → Stays (left_at_home s m taken).after.log
+  log_stays (row.Take content) at = noted (node_at s m.to).now (WasHome content) (λ h. grind (arith, h)) at.late
+  log_stays (row.Unblock fixed) at = unblocked fixed (home_of s m.block).transaction at.late
+  log_stays (row.PutData content) at = noted m.tag (WasCache m.from) (λ h. grind (arith, h)) at.late
+  log_stays (row.GrantExclusive content) at = noted (node_at s m.to).now (WasHome content) (λ h. grind (arith, h)) at.late
+  log_stays _ at = as_it_was
 
-  pub unblock-elsewhere : (fixed : ℕ) (transaction : Transaction) → (home_of s m.block).transaction ≡ Some transaction →
-      (transaction.kind ≡ kind.Move → logged_to (node_at s m.to).log true m.block ≤ fixed + 1) →
-      IsHomeElsewhere s t m (row.unblock (kept_at s m.to m.block) m.block fixed (home_of s m.block).transaction) e o
-  unblock-elsewhere fixed transaction begun late =
-      subst (λ x. IsHomeElsewhere s t m (row.unblock (kept_at s m.to m.block) m.block fixed x) e o) (sym begun)
-      (unblock_by fixed transaction.requester transaction.begun transaction.kind late)
+  -- it sees nothing of what is sent
+  none_for_all : (taken : HomeRow) → NoneForAll (left_at_home s m taken).sends
+  none_for_all (row.ReadAtHome content) = (refl, tt)
+  none_for_all (row.ReadAtOwner owner) = (refl, tt)
+  none_for_all (row.Take content) = (refl, none-invalidations 0 (others (home_of s m.block).sharers m.from) m.from)
+  none_for_all (row.MoveOwnership owner) = (refl, none-invalidations 0 (others (home_of s m.block).sharers m.from) m.from)
+  none_for_all row.Upgrade = (refl, none-invalidations 0 (others (home_of s m.block).sharers m.from) m.from)
+  none_for_all (row.Unblock fixed) = sends_nothing fixed (home_of s m.block).transaction
+  none_for_all row.PutBegins = (refl, tt)
+  none_for_all row.PutIsStale = (refl, tt)
+  none_for_all (row.PutData content) = tt
+  none_for_all (row.GrantExclusive content) = (refl, tt)
+
+  pub home-elsewhere : (t : GhostState) (e : Block) → IsShaped s → IsInFlight s m → (taken : HomeRow) → IsAtHome s m taken →
+      IsHomeElsewhere s t m (left_at_home s m taken) e o
+  home-elsewhere t e shape flight taken at =
+      let stays = log_stays taken at in
+      other-seen s m (left_at_home s m taken) shape flight.to flight.block t e o other stays.0 stays.1 (none_for_all taken)

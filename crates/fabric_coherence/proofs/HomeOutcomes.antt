@@ -23,7 +23,7 @@ use Rattle.sn_coherence.specs.Invariant.{BlockInvariant}
 use Rattle.sn_coherence.proofs.WhatFollows.{kept_meets_rows, kept_meets_notes}
 use Rattle.fabric_coherence.specs.View.{GhostState, block_seen, message_seen, is_itself, owner_of, kind_seen, kind_open}
 use Rattle.fabric_coherence.specs.Steps.{IsShaped, IsInFlight}
-use Rattle.fabric_coherence.specs.HomeSeen.{IsHomeRow, IsHomeElsewhere}
+use Rattle.fabric_coherence.specs.HomeSeen.{IsHomeRow}
 use Rattle.fabric_coherence.specs.HomeEvents.{IsServed, home_event, left_at_home, other_count, row_at_home, targets_of}
 use Rattle.fabric_coherence.proofs.Receivers.{seen_as_sent}
 use Rattle.fabric_coherence.proofs.HomeConditions as condition
@@ -32,9 +32,6 @@ use Rattle.fabric_coherence.proofs.InFlight.{has_arrived}
 use Rattle.fabric_coherence.proofs.HomeRows.{of-cache, read_at_home-seen, read_at_owner-seen, take-seen, move_ownership-seen, upgrade-seen}
 use Rattle.fabric_coherence.proofs.HomeRows.{unblock-seen, put_begins-seen, put_is_stale-seen, put_data-seen, grant_exclusive-seen}
 use Rattle.fabric_coherence.proofs.HomeRows.{other_sharers-listed}
-use Rattle.fabric_coherence.proofs.HomeElsewhere.{read_at_home-elsewhere, read_at_owner-elsewhere, take-elsewhere, move_ownership-elsewhere}
-use Rattle.fabric_coherence.proofs.HomeElsewhere.{upgrade-elsewhere, unblock-elsewhere, put_begins-elsewhere, put_is_stale-elsewhere}
-use Rattle.fabric_coherence.proofs.HomeElsewhere.{put_data-elsewhere, grant_exclusive-elsewhere}
 
 -- who isn't the owner: the home owns, or another cache
 not_its : (holder : Holder) (r : ℕ) → is_owner holder r ≡ false → (is_itself holder ≡ true) ⊎ (owner_of holder ≢ r)
@@ -161,26 +158,3 @@ module _ (s : Fabric) (t : GhostState) (m : Message) (shape : IsShaped s) (fligh
       (listed GetS at.body at.home).all ∙ at.finds.2,
     ),
   )
-
-  -- and for another block it is a loss of the message, and new numbers
-  module _ (e : block.Block) (o : ℕ) (other : o ≢ m.block) where
-    abbrev Passes : HomeRow → Type 0
-    Passes taken = IsHomeElsewhere s t m (left_at_home s m taken) e o
-
-    unblock_passes : (fixed : ℕ) (open_one : Option Transaction) → m.body ≡ Unblock fixed → m.to ≡ home_node s m.block →
-        (home_of s m.block).transaction ≡ open_one → MayUnblock open_one m.from → Passes (row.Unblock fixed)
-    unblock_passes fixed None is home h may = absurd may
-    unblock_passes fixed (Some transaction) is home h may =
-        unblock-elsewhere s t m shape flight e o other fixed transaction h (late_fixed fixed transaction is home h)
-
-    pub home-elsewhere : (taken : HomeRow) → IsAtHome s m taken → Passes taken
-    home-elsewhere (row.ReadAtHome content) at = read_at_home-elsewhere s t m shape flight e o other content
-    home-elsewhere (row.ReadAtOwner owner) at = read_at_owner-elsewhere s t m shape flight e o other owner
-    home-elsewhere (row.Take content) at = take-elsewhere s t m shape flight e o other content at.late
-    home-elsewhere (row.MoveOwnership owner) at = move_ownership-elsewhere s t m shape flight e o other owner
-    home-elsewhere row.Upgrade at = upgrade-elsewhere s t m shape flight e o other
-    home-elsewhere (row.Unblock fixed) at = unblock_passes fixed (home_of s m.block).transaction at.body at.home refl at.finds
-    home-elsewhere row.PutBegins at = put_begins-elsewhere s t m shape flight e o other
-    home-elsewhere row.PutIsStale at = put_is_stale-elsewhere s t m shape flight e o other
-    home-elsewhere (row.PutData content) at = put_data-elsewhere s t m shape flight e o other content at.late
-    home-elsewhere (row.GrantExclusive content) at = grant_exclusive-elsewhere s t m shape flight e o other content at.late

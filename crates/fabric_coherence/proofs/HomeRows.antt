@@ -48,7 +48,7 @@ none_marked zero n = refl
 none_marked (suc k) zero = refl
 none_marked (suc k) (suc n) = none_marked k n
 
-pub caches-noted_owner : (log : List LogEntry) (k b : ℕ) (holder : Holder) → logged_to log true b ≤ k + 1 → (o : ℕ) →
+caches-noted_owner : (log : List LogEntry) (k b : ℕ) (holder : Holder) → logged_to log true b ≤ k + 1 → (o : ℕ) →
     IsSameCaches (row.noted_owner log k b holder) log o
 caches-noted_owner log k b (Itself content) l o = same_caches log o
 caches-noted_owner log k b (OfCache owner) l o = caches-noted log k b (WasCache owner) (λ h. grind (arith, h)) l o

@@ -26,7 +26,8 @@ use Rattle.fabric_coherence.specs.Leads.{Moves}
 use Rattle.fabric_coherence.proofs.Base.{read_set}
 use Rattle.fabric_coherence.proofs.NetShape.{invalidations-within, after_home-shaped}
 use Rattle.fabric_coherence.proofs.HomeConditions.{IsAtHome}
-use Rattle.fabric_coherence.proofs.HomeOutcomes.{Does, at_home, home-outcome, home-elsewhere}
+use Rattle.fabric_coherence.proofs.HomeOutcomes.{Does, at_home, home-outcome}
+use Rattle.fabric_coherence.proofs.HomeElsewhere.{home-elsewhere}
 use Rattle.fabric_coherence.proofs.KeptCommon.{IsQuiet, frames_stay, quiet_losing, elsewhere_leads, goes_own, fits_moves}
 
 -- what a home sends goes to nodes that are there, and its entry keeps its length
@@ -100,7 +101,7 @@ module _ (s : Fabric) (t : GhostState) (m : Message) (kept : FabricInvariant s t
     goes_own s t (λ o r. r) (after_home s m reply).fabric (ghost_with t m.block own)
         (length-set s.nodes m.to (record (node_at s m.to) { log = reply.after.log })) (frames_stay s t) shaped m.block (losing own lost) rest
         does.0 (quiet_losing (length s.nodes) (block_seen s t m.block) (home_event s m taken) lost does.1 (home-quiet s m taken))
-        (λ o l other. home-elsewhere s t m kept.shape flight of_block reached own o other taken at)
+        (λ o l other. home-elsewhere s m o other t own kept.shape flight taken at)
         (λ o l other. elsewhere_leads (length s.nodes) (block_seen s t o) m.id (length reply.sends)),
   )
     where
