@@ -5,26 +5,29 @@ use Rattle.std.proofs.lemmas.Bool.Decides.{nat_tests}
 use Rattle.std.specs.Prelude.{if◌then◌else◌, List, slice_set, slice_index_or, nat_eq, is_some}
 use Rattle.sn_msg.specs.declared.Message.{Message}
 use Rattle.sn_msg.specs.declared.Body.TheVariants.{DataS, DataM, InvAck, Unblock, PutData}
-use Rattle.log_buffer.specs.Log.{logged_to}
+use Rattle.log_buffer.specs.Log.{LogEntry, logged_to}
 use Rattle.sn_model.specs.declared.cache.LineState.{LineState}
-use Rattle.sn_model.specs.declared.cache.LineState.TheVariants.{Shared, Modified, Exclusive}
+use Rattle.sn_model.specs.declared.cache.LineState.TheVariants.{Shared, Owned, Modified, Exclusive}
 use Rattle.sn_model.specs.declared.cache.Need.{Need}
 use Rattle.sn_model.specs.declared.cache.Need.TheVariants.{Read, Write}
+use Rattle.sn_model.specs.declared.rows.CacheRow.{CacheRow}
+use Rattle.sn_model.specs.declared.rows.CacheRow.TheVariants as row
 use Rattle.sn_model.specs.Caches.{Line, Miss, Put, line_of, is_present, with_line, block_count, no_line, puts_on}
 use Rattle.sn_model.specs.Fabric.{Fabric, node_at, home_node}
 use Rattle.sn_model.specs.NetEvents.{logged_at}
 use Rattle.sn_model.specs.CacheRows.{Logged, send, reply_when_complete, reply_that_waits, reply_or_wait, reply_or_wait_by, fixed_at}
-use Rattle.sn_model.specs.CacheRows.{miss_with_ack, with_miss, taken_over, line_when_done, AwaitsAnswer, forward_read, forward_write}
-use Rattle.sn_model.specs.CacheRows.{invalidate, put_go, put_done, data_shared, data_modified, data_exclusive, upgrade_granted, acknowledge}
-use Rattle.sn_model.specs.CacheRows.{MayTakeCopy, MayTakeOwnership, MayUpgrade, MayCount}
+use Rattle.sn_model.specs.CacheRows.{miss_with_ack, with_miss, taken_over, line_when_done, AwaitsAnswer, MayCount, given_up}
+use Rattle.sn_model.specs.CacheRows.{forward_read, invalidate, put_go, put_done, data_shared, data_exclusive, upgrade_granted, acknowledge}
 use Rattle.sn_coherence.specs.Block as block
-use Rattle.sn_coherence.specs.OtherEvents.{end_miss_elsewhere, end_put_elsewhere}
+use Rattle.sn_coherence.specs.OtherEvents.{end_miss_elsewhere}
 use Rattle.fabric_coherence.specs.View.{GhostState, block_seen, miss_seen, miss_here, put_seen, put_issued}
 use Rattle.fabric_coherence.specs.Steps.{elsewhere, IsShaped, IsInFlight}
+use Rattle.fabric_coherence.specs.CacheEvents.{left_at_cache, elsewhere_after}
 use Rattle.fabric_coherence.specs.CacheSeen.{KeepsHomeSide, KeepsCacheSide, IsElsewhere, completed_or_waiting_elsewhere}
 use Rattle.fabric_coherence.proofs.CacheSeen.{set_kept, home_side_same, home_side_noted_owned, home_side_noted_not, cache_side_same}
 use Rattle.fabric_coherence.proofs.CacheSeen.{cache_side_noted_owned, cache_side_noted_not, eq_other}
-use Rattle.fabric_coherence.proofs.CacheApart.{Waiting, line_unwritten, one_elsewhere, none_elsewhere}
+use Rattle.fabric_coherence.proofs.CacheConditions.{IsAtCache, none_seen}
+use Rattle.fabric_coherence.proofs.CacheApart.{IsApart, Waiting, line_unwritten, one_elsewhere, none_elsewhere}
 use Rattle.fabric_coherence.proofs.CacheSends.{miss_is}
 use Rattle.fabric_coherence.proofs.CacheMisses.{awaited, counted, eq_same}
 
@@ -53,7 +56,7 @@ pub puts_elsewhere : (o : Option Put) (b other : ℕ) → puts_on o b ≡ true �
 puts_elsewhere None b other may d = grind arith
 puts_elsewhere (Some put) b other may d = put_apart put.block b other may d
 
-module _ (s : Fabric) (t : GhostState) (m : Message) (shape : IsShaped s) (flight : IsInFlight s m) (row : block.Block) (o : ℕ) (apart : o ≢ m.block) where
+module _ (s : Fabric) (t : GhostState) (m : Message) (shape : IsShaped s) (flight : IsInFlight s m) (own : block.Block) (o : ℕ) (apart : o ≢ m.block) where
   abbrev there : block.Block
   there = block_seen s t o
 
@@ -96,76 +99,27 @@ module _ (s : Fabric) (t : GhostState) (m : Message) (shape : IsShaped s) (fligh
   cache_same : KeepsCacheSide (node_at s m.to).log (node_at s m.to).log o
   cache_same = cache_side_same (node_at s m.to).log o
 
-  pub forward_read-elsewhere : (r : ℕ) →
-      IsElsewhere s t m (forward_read (logged_at s m.to) m.block r) row o (elsewhere (block_seen s t o) m.id 1)
-  forward_read-elsewhere r = one_elsewhere s t m shape flight o apart row as_before (forward_read at m.block r).after None
-      (record {
-        line = unwritten _;
-        home_side = home_same;
-        cache_side = cache_same;
-        miss = same_miss;
-        putting = same_putting;
-        put_issued = same_put_issued;
-      })
-      (send r (DataS (line_of at.cache m.block).content)) refl
+  abbrev log : List LogEntry
+  log = (node_at s m.to).log
 
-  pub forward_write-elsewhere : (r a : ℕ) → logged_to (node_at s m.to).log false m.block ≤ (node_at s m.to).now + 1 →
-      IsElsewhere s t m (forward_write (logged_at s m.to) m.block (node_at s m.to).now r a) row o (elsewhere (block_seen s t o) m.id 1)
-  forward_write-elsewhere r a low =
-      one_elsewhere s t m shape flight o apart row as_before (forward_write at m.block (node_at s m.to).now r a).after (Some m.block)
-      (record {
-        line = unwritten no_line;
-        home_side = home_side_noted_owned (node_at s m.to).log (node_at s m.to).now m.block (line_of at.cache m.block).content o low;
-        cache_side =
-            cache_side_noted_owned (node_at s m.to).log (node_at s m.to).now m.block (line_of at.cache m.block).content o low apart;
-        miss = same_miss;
-        putting = same_putting;
-        put_issued = same_put_issued;
-      })
-      (send r (DataM (line_of at.cache m.block).content a)) refl
+  -- a row that writes its line, and leaves the miss and the put
+  written_apart : (line : Line) (after : List LogEntry) → KeepsHomeSide log after o → KeepsCacheSide log after o →
+      IsApart s t m (record { cache = record at.cache { lines = slice_set lines m.block line }; log = after }) o as_before
+  written_apart line after home_side cache_side = record {
+    line = unwritten line;
+    home_side = home_side;
+    cache_side = cache_side;
+    miss = same_miss;
+    putting = same_putting;
+    put_issued = same_put_issued;
+  }
 
-  pub invalidate-elsewhere : (r : ℕ) →
-      IsElsewhere s t m (invalidate (logged_at s m.to) m.block r) row o (elsewhere (block_seen s t o) m.id 1)
-  invalidate-elsewhere r =
-      one_elsewhere s t m shape flight o apart row as_before (invalidate at m.block r).after
-      (if is_present (line_of at.cache m.block).state then Some m.block else None)
-      (record {
-        line = unwritten no_line;
-        home_side = home_same;
-        cache_side = cache_same;
-        miss = same_miss;
-        putting = same_putting;
-        put_issued = same_put_issued;
-      })
-      (send r InvAck) refl
+  -- what a note of the content that is given up says of the other block
+  home_given : logged_to log false m.block ≤ (node_at s m.to).now + 1 → KeepsHomeSide log (given_up at m.block (node_at s m.to).now).log o
+  home_given low = home_side_noted_owned log (node_at s m.to).now m.block (line_of at.cache m.block).content o low
 
-  pub put_go-elsewhere : logged_to (node_at s m.to).log false m.block ≤ (node_at s m.to).now + 1 →
-      IsElsewhere s t m (put_go (logged_at s m.to) (home_node s m.block) m.block (node_at s m.to).now) row o
-      (end_put_elsewhere (elsewhere (block_seen s t o) m.id 1) m.to)
-  put_go-elsewhere low =
-      one_elsewhere s t m shape flight o apart row without_put (put_go at home m.block (node_at s m.to).now).after (Some m.block)
-      (record {
-        line = unwritten no_line;
-        home_side = home_side_noted_owned (node_at s m.to).log (node_at s m.to).now m.block (line_of at.cache m.block).content o low;
-        cache_side =
-            cache_side_noted_owned (node_at s m.to).log (node_at s m.to).now m.block (line_of at.cache m.block).content o low apart;
-        miss = same_miss;
-        putting = λ n. refl;
-        put_issued = λ n. refl;
-      })
-      (send home (PutData (line_of at.cache m.block).content)) refl
-
-  pub put_done-elsewhere : IsElsewhere s t m (put_done (logged_at s m.to)) row o
-      (end_put_elsewhere (elsewhere (block_seen s t o) m.id 0) m.to)
-  put_done-elsewhere = none_elsewhere s t m shape flight o apart row without_put (put_done at).after None
-      (record {
-        line = refl;
-        home_side = home_same;
-        cache_side = cache_same;
-        miss = same_miss;
-        putting = λ n. refl;
-        put_issued = λ n. refl;
-      })
+  cache_given : logged_to log false m.block ≤ (node_at s m.to).now + 1 → KeepsCacheSide log (given_up at m.block (node_at s m.to).now).log o
+  cache_given low = cache_side_noted_owned log (node_at s m.to).now m.block (line_of at.cache m.block).content o low apart
 
   -- a miss of this block that is complete, and one that waits
   module _ (miss : Miss) (open_is : (node_at s m.to).cache.miss ≡ Some miss) (on : miss.block ≡ m.block)
@@ -173,9 +127,9 @@ module _ (s : Fabric) (t : GhostState) (m : Message) (shape : IsShaped s) (fligh
       (put : before.cache.put ≡ (node_at s m.to).cache.put)
       (home_side : KeepsHomeSide (node_at s m.to).log before.log o) (cache_side : KeepsCacheSide (node_at s m.to).log before.log o) where
     complete_elsewhere : (done : Miss) (fixed : ℕ) → done.block ≡ m.block →
-        IsElsewhere s t m (reply_when_complete before home done fixed) row o (end_miss_elsewhere (elsewhere there m.id 1) m.to)
+        IsElsewhere s t m (reply_when_complete before home done fixed) own o (end_miss_elsewhere (elsewhere there m.id 1) m.to)
     complete_elsewhere done fixed same =
-        one_elsewhere s t m shape flight o apart row without_miss (reply_when_complete before home done fixed).after None
+        one_elsewhere s t m shape flight o apart own without_miss (reply_when_complete before home done fixed).after None
         (record {
           line =
               ap (λ (b : ℕ). slice_index_or
@@ -199,8 +153,8 @@ module _ (s : Fabric) (t : GhostState) (m : Message) (shape : IsShaped s) (fligh
         (send home (Unblock fixed)) refl
 
     waiting_elsewhere : (later : Miss) → later.block ≡ m.block → later.issued ≡ miss.issued →
-        IsElsewhere s t m (reply_that_waits before later) row o (elsewhere there m.id 0)
-    waiting_elsewhere later same issued = none_elsewhere s t m shape flight o apart row as_before (with_miss before (Some later)) None
+        IsElsewhere s t m (reply_that_waits before later) own o (elsewhere there m.id 0)
+    waiting_elsewhere later same issued = none_elsewhere s t m shape flight o apart own as_before (with_miss before (Some later)) None
         (record {
           line = line;
           home_side = home_side;
@@ -213,13 +167,13 @@ module _ (s : Fabric) (t : GhostState) (m : Message) (shape : IsShaped s) (fligh
         })
 
     completed_or_waiting_case : (all : Bool) (now : Miss) (fixed : ℕ) → now.block ≡ m.block → now.issued ≡ miss.issued →
-        IsElsewhere s t m (if all then reply_when_complete before home now fixed else reply_that_waits before now) row o
+        IsElsewhere s t m (if all then reply_when_complete before home now fixed else reply_that_waits before now) own o
         (completed_or_waiting_elsewhere there m.id m.to all)
     completed_or_waiting_case true now fixed same issued = complete_elsewhere now fixed same
     completed_or_waiting_case false now fixed same issued = waiting_elsewhere now same issued
 
     fixed_case : (fixed : Option ℕ) (now : Miss) → now.block ≡ m.block → now.issued ≡ miss.issued →
-        IsElsewhere s t m (reply_or_wait_by before home now fixed) row o
+        IsElsewhere s t m (reply_or_wait_by before home now fixed) own o
         (completed_or_waiting_elsewhere there m.id m.to (is_some fixed && nat_eq now.acks now.due))
     fixed_case None now same issued = waiting_elsewhere now same issued
     fixed_case (Some fixed) now same issued = completed_or_waiting_case (nat_eq now.acks now.due) now fixed same issued
@@ -232,21 +186,21 @@ module _ (s : Fabric) (t : GhostState) (m : Message) (shape : IsShaped s) (fligh
     seen_miss = miss_is s t m shape flight (node_at s m.to).cache.miss miss open_is on
 
     answered_miss : (tag a : ℕ) →
-        IsElsewhere s t m (reply_or_wait before home (fixed_at (node_at s m.to).cache.miss tag a)) row o
+        IsElsewhere s t m (reply_or_wait before home (fixed_at (node_at s m.to).cache.miss tag a)) own o
         (completed_or_waiting_elsewhere there m.id m.to (here.acks == a))
     answered_miss tag a =
-        subst (λ x. IsElsewhere s t m (reply_or_wait before home (fixed_at x tag a)) row o
+        subst (λ x. IsElsewhere s t m (reply_or_wait before home (fixed_at x tag a)) own o
         (completed_or_waiting_elsewhere there m.id m.to (here.acks == a))) (sym open_is)
-        (subst (λ x. IsElsewhere s t m (reply_or_wait before home (fixed_at (Some miss) tag a)) row o
+        (subst (λ x. IsElsewhere s t m (reply_or_wait before home (fixed_at (Some miss) tag a)) own o
         (completed_or_waiting_elsewhere there m.id m.to x)) (sym (eq_same miss.acks a) ∙ ap (λ x. x.acks == a) (sym seen_miss))
         (fixed_case (Some tag) (record miss { fixed = Some tag; due = a }) on refl))
 
-    counted_miss : IsElsewhere s t m (reply_or_wait before home (miss_with_ack (node_at s m.to).cache.miss)) row o
+    counted_miss : IsElsewhere s t m (reply_or_wait before home (miss_with_ack (node_at s m.to).cache.miss)) own o
         (completed_or_waiting_elsewhere there m.id m.to (here.is_fixed && (here.acks + 1 == here.due)))
     counted_miss =
-        subst (λ x. IsElsewhere s t m (reply_or_wait before home (miss_with_ack x)) row o
+        subst (λ x. IsElsewhere s t m (reply_or_wait before home (miss_with_ack x)) own o
         (completed_or_waiting_elsewhere there m.id m.to (here.is_fixed && (here.acks + 1 == here.due)))) (sym open_is)
-        (subst (λ x. IsElsewhere s t m (reply_or_wait before home (miss_with_ack (Some miss))) row o
+        (subst (λ x. IsElsewhere s t m (reply_or_wait before home (miss_with_ack (Some miss))) own o
         (completed_or_waiting_elsewhere there m.id m.to x))
         (ap (λ x. is_some miss.fixed && x) (sym (eq_same (miss.acks + 1) miss.due))
         ∙ ap (λ x. x.is_fixed && (x.acks + 1 == x.due)) (sym seen_miss))
@@ -259,10 +213,10 @@ module _ (s : Fabric) (t : GhostState) (m : Message) (shape : IsShaped s) (fligh
   taken_elsewhere : (state : LineState) (content : List ℕ) (a : ℕ) (need : Need) → AwaitsAnswer (node_at s m.to).cache.miss m.block need →
       logged_to (node_at s m.to).log false m.block ≤ m.tag + 1 →
       IsElsewhere s t m (reply_or_wait (taken_over at m.block m.tag state content) home
-      (fixed_at (node_at s m.to).cache.miss m.tag a)) row o (completed_or_waiting_elsewhere there m.id m.to (miss_here_now.acks == a))
+      (fixed_at (node_at s m.to).cache.miss m.tag a)) own o (completed_or_waiting_elsewhere there m.id m.to (miss_here_now.acks == a))
   taken_elsewhere state content a need may low = awaited (node_at s m.to).cache.miss m.block need
       (IsElsewhere s t m (reply_or_wait (taken_over at m.block m.tag state content) home
-      (fixed_at (node_at s m.to).cache.miss m.tag a)) row o (completed_or_waiting_elsewhere there m.id m.to (miss_here_now.acks == a))) may
+      (fixed_at (node_at s m.to).cache.miss m.tag a)) own o (completed_or_waiting_elsewhere there m.id m.to (miss_here_now.acks == a))) may
       (λ miss open_is on n. answered_miss miss open_is on (taken_over at m.block m.tag state content)
       (as_long (record { state = state; content = content })) (unwritten (record { state = state; content = content })) refl
       (home_side_noted_not (node_at s m.to).log m.tag m.block o low)
@@ -272,49 +226,60 @@ module _ (s : Fabric) (t : GhostState) (m : Message) (shape : IsShaped s) (fligh
   none_due : (P : Bool → Type 0) → miss_here_now.acks ≡ 0 → P (miss_here_now.acks == 0) → P true
   none_due P e p = subst P (ap (λ x. x == 0) e) p
 
-  pub data_shared-elsewhere : (content : List ℕ) → MayTakeCopy (logged_at s m.to) m.block → ((block_seen s t m.block).miss m.to).acks ≡ 0 →
-      IsElsewhere s t m (data_shared (logged_at s m.to) (home_node s m.block) m.block m.tag content) row o
-      (end_miss_elsewhere (elsewhere (block_seen s t o) m.id 1) m.to)
-  data_shared-elsewhere content may acks =
-      none_due (λ x. IsElsewhere s t m (data_shared at home m.block m.tag content) row o
-      (completed_or_waiting_elsewhere there m.id m.to x)) acks
-      (awaited (node_at s m.to).cache.miss m.block Read
-      (IsElsewhere s t m (data_shared at home m.block m.tag content) row o
-      (completed_or_waiting_elsewhere there m.id m.to (miss_here_now.acks == 0))) may.0
+  pub cache-elsewhere : (taken : CacheRow) → IsAtCache s m taken →
+      IsElsewhere s t m (left_at_cache s m taken) own o (elsewhere_after s t m taken o)
+  cache-elsewhere (row.ForwardRead r) does =
+      one_elsewhere s t m shape flight o apart own as_before (forward_read at m.block r).after None
+      (written_apart (record { state = Owned; content = (line_of at.cache m.block).content }) log home_same cache_same)
+      (send r (DataS (line_of at.cache m.block).content)) refl
+  cache-elsewhere (row.ForwardWrite r due) does =
+      one_elsewhere s t m shape flight o apart own as_before (given_up at m.block (node_at s m.to).now) (Some m.block)
+      (written_apart no_line (given_up at m.block (node_at s m.to).now).log (home_given does.late) (cache_given does.late))
+      (send r (DataM (line_of at.cache m.block).content due)) refl
+  cache-elsewhere (row.Invalidate r) does =
+      one_elsewhere s t m shape flight o apart own as_before (invalidate at m.block r).after
+      (if is_present (line_of at.cache m.block).state then Some m.block else None) (written_apart no_line log home_same cache_same)
+      (send r InvAck) refl
+  cache-elsewhere (row.DataShared content) does =
+      none_due (λ x. IsElsewhere s t m (data_shared at home m.block m.tag content) own o
+      (completed_or_waiting_elsewhere there m.id m.to x)) (none_seen at.cache.miss m.block does.met.2)
+      (awaited at.cache.miss m.block Read
+      (IsElsewhere s t m (data_shared at home m.block m.tag content) own o
+      (completed_or_waiting_elsewhere there m.id m.to (miss_here_now.acks == 0))) does.met.0
       (λ miss open_is on n. answered_miss miss open_is on (record at { cache = with_line at.cache m.block Shared content })
       (as_long (record { state = Shared; content = content }))
       (unwritten (record { state = Shared; content = content })) refl home_same cache_same m.tag 0))
-
-  pub data_exclusive-elsewhere : (content : List ℕ) → MayTakeCopy (logged_at s m.to) m.block →
-      ((block_seen s t m.block).miss m.to).acks ≡ 0 → logged_to (node_at s m.to).log false m.block ≤ m.tag + 1 →
-      IsElsewhere s t m (data_exclusive (logged_at s m.to) (home_node s m.block) m.block m.tag content) row o
-      (end_miss_elsewhere (elsewhere (block_seen s t o) m.id 1) m.to)
-  data_exclusive-elsewhere content may acks low =
-      none_due (λ x. IsElsewhere s t m (data_exclusive at home m.block m.tag content) row o
-      (completed_or_waiting_elsewhere there m.id m.to x)) acks
-      (taken_elsewhere Exclusive content 0 Read may.0 low)
-
-  pub data_modified-elsewhere : (content : List ℕ) (a : ℕ) → MayTakeOwnership (logged_at s m.to) m.block →
-      logged_to (node_at s m.to).log false m.block ≤ m.tag + 1 →
-      IsElsewhere s t m (data_modified (logged_at s m.to) (home_node s m.block) m.block m.tag content a) row o
-      (completed_or_waiting_elsewhere (block_seen s t o) m.id m.to (((block_seen s t m.block).miss m.to).acks == a))
-  data_modified-elsewhere content a may low = taken_elsewhere Modified content a Write may.0 low
-
-  pub upgrade_granted-elsewhere : (a : ℕ) → MayUpgrade (logged_at s m.to) m.block →
-      IsElsewhere s t m (upgrade_granted (logged_at s m.to) (home_node s m.block) m.tag a) row o
-      (completed_or_waiting_elsewhere (block_seen s t o) m.id m.to (((block_seen s t m.block).miss m.to).acks == a))
-  upgrade_granted-elsewhere a may =
-      awaited (node_at s m.to).cache.miss m.block Write
-      (IsElsewhere s t m (upgrade_granted at home m.tag a) row o
-      (completed_or_waiting_elsewhere there m.id m.to (miss_here_now.acks == a))) may.0
-      (λ miss open_is on n. answered_miss miss open_is on at (shape.lines m.to flight.to) refl refl home_same cache_same m.tag a)
-
-  pub acknowledge-elsewhere : MayCount (node_at s m.to).cache.miss m.block →
-      IsElsewhere s t m (acknowledge (logged_at s m.to) (home_node s m.block)) row o
-      (completed_or_waiting_elsewhere (block_seen s t o) m.id m.to
-      (((block_seen s t m.block).miss m.to).is_fixed
-      && (((block_seen s t m.block).miss m.to).acks + 1 == ((block_seen s t m.block).miss m.to).due)))
-  acknowledge-elsewhere may = counted (node_at s m.to).cache.miss m.block
-      (IsElsewhere s t m (acknowledge at home) row o
-      (completed_or_waiting_elsewhere there m.id m.to (miss_here_now.is_fixed && (miss_here_now.acks + 1 == miss_here_now.due)))) may
+  cache-elsewhere (row.DataModified content due) does = taken_elsewhere Modified content due Write does.met.0 does.late
+  cache-elsewhere (row.UpgradeGranted due) does =
+      awaited at.cache.miss m.block Write
+      (IsElsewhere s t m (upgrade_granted at home m.tag due) own o
+      (completed_or_waiting_elsewhere there m.id m.to (miss_here_now.acks == due))) does.met.0
+      (λ miss open_is on n. answered_miss miss open_is on at (shape.lines m.to flight.to) refl refl home_same cache_same m.tag due)
+  cache-elsewhere row.Acknowledge does = counted at.cache.miss m.block
+      (IsElsewhere s t m (acknowledge at home) own o
+      (completed_or_waiting_elsewhere there m.id m.to (miss_here_now.is_fixed && (miss_here_now.acks + 1 == miss_here_now.due)))) does.met
       (λ miss open_is on. counted_miss miss open_is on at (shape.lines m.to flight.to) refl refl home_same cache_same)
+  cache-elsewhere row.PutGo does =
+      one_elsewhere s t m shape flight o apart own without_put (put_go at home m.block (node_at s m.to).now).after (Some m.block)
+      (record {
+        line = unwritten no_line;
+        home_side = home_given does.late;
+        cache_side = cache_given does.late;
+        miss = same_miss;
+        putting = λ n. refl;
+        put_issued = λ n. refl;
+      })
+      (send home (PutData (line_of at.cache m.block).content)) refl
+  cache-elsewhere row.PutDone does = none_elsewhere s t m shape flight o apart own without_put (put_done at).after None
+      (record {
+        line = refl;
+        home_side = home_same;
+        cache_side = cache_same;
+        miss = same_miss;
+        putting = λ n. refl;
+        put_issued = λ n. refl;
+      })
+  cache-elsewhere (row.DataExclusive content) does =
+      none_due (λ x. IsElsewhere s t m (data_exclusive at home m.block m.tag content) own o
+      (completed_or_waiting_elsewhere there m.id m.to x)) (none_seen at.cache.miss m.block does.met.2)
+      (taken_elsewhere Exclusive content 0 Read does.met.0 does.late)

@@ -28,7 +28,7 @@ use Rattle.fabric_coherence.specs.Recorded.{heard_by}
 use Rattle.fabric_coherence.specs.View.{GhostState, block_seen, message_seen}
 use Rattle.fabric_coherence.specs.Steps.{IsShaped, IsInFlight, elsewhere, node_in_body}
 use Rattle.fabric_coherence.specs.Sends.{OutsWithin}
-use Rattle.fabric_coherence.specs.CacheSeen.{IsOwnRow, IsElsewhere, completed_or_waiting_elsewhere}
+use Rattle.fabric_coherence.specs.CacheSeen.{IsOwnRow, completed_or_waiting_elsewhere}
 use Rattle.fabric_coherence.specs.CacheEvents.{told_of, cache_event, left_at_cache, elsewhere_after}
 use Rattle.fabric_coherence.proofs.Receivers.{body_of}
 use Rattle.fabric_coherence.proofs.InFlight.{has_arrived}
@@ -37,10 +37,7 @@ use Rattle.fabric_coherence.proofs.CacheConditions.{IsAtCache, fixed_owns, meets
 use Rattle.fabric_coherence.proofs.CacheRows.{forward_read-seen, forward_write-seen, invalidate-seen, put_go-seen, put_done-seen}
 use Rattle.fabric_coherence.proofs.CacheMisses.{data_shared-seen, data_modified-seen, data_exclusive-seen, upgrade_granted-seen}
 use Rattle.fabric_coherence.proofs.CacheMisses.{acknowledge-seen}
-use Rattle.fabric_coherence.proofs.CacheElsewhere.{awaits_elsewhere, counts_elsewhere, puts_elsewhere, forward_read-elsewhere}
-use Rattle.fabric_coherence.proofs.CacheElsewhere.{forward_write-elsewhere, invalidate-elsewhere, put_go-elsewhere, put_done-elsewhere}
-use Rattle.fabric_coherence.proofs.CacheElsewhere.{data_shared-elsewhere, data_modified-elsewhere, data_exclusive-elsewhere}
-use Rattle.fabric_coherence.proofs.CacheElsewhere.{upgrade_granted-elsewhere, acknowledge-elsewhere}
+use Rattle.fabric_coherence.proofs.CacheElsewhere.{awaits_elsewhere, counts_elsewhere, puts_elsewhere}
 use Rattle.fabric_coherence.proofs.KeptCommon.{IsQuiet, told_here, told_there, event_leads, quiet_leads, leads_as, absent_leads}
 use Rattle.fabric_coherence.proofs.KeptCommon.{elsewhere_leads, end_miss_elsewhere_leads, end_put_elsewhere_leads}
 use Rattle.fabric_coherence.proofs.KeptNode.{absent_seen}
@@ -198,24 +195,8 @@ module _ (s : Fabric) (t : GhostState) (m : Message) (shape : IsShaped s) (fligh
   cache-leads row.PutDone does = quiet row.PutDone does tt
   cache-leads (row.DataExclusive content) does = quiet (row.DataExclusive content) does tt
 
-  -- another block sees that the message is gone, that numbers were taken, and that a miss or a put closes elsewhere
-  module _ (own : block.Block) (o : ℕ) (other : o ≢ m.block) where
-    pub cache-elsewhere : (taken : CacheRow) → IsAtCache s m taken →
-        IsElsewhere s t m (left_at_cache s m taken) own o (elsewhere_after s t m taken o)
-    cache-elsewhere (row.ForwardRead r) does = forward_read-elsewhere s t m shape flight own o other r
-    cache-elsewhere (row.ForwardWrite r due) does = forward_write-elsewhere s t m shape flight own o other r due does.late
-    cache-elsewhere (row.Invalidate r) does = invalidate-elsewhere s t m shape flight own o other r
-    cache-elsewhere (row.DataShared content) does =
-        data_shared-elsewhere s t m shape flight own o other content does.met (none_seen at.cache.miss m.block does.met.2)
-    cache-elsewhere (row.DataModified content due) does =
-        data_modified-elsewhere s t m shape flight own o other content due does.met does.late
-    cache-elsewhere (row.UpgradeGranted due) does = upgrade_granted-elsewhere s t m shape flight own o other due does.met
-    cache-elsewhere row.Acknowledge does = acknowledge-elsewhere s t m shape flight own o other does.met
-    cache-elsewhere row.PutGo does = put_go-elsewhere s t m shape flight own o other does.late
-    cache-elsewhere row.PutDone does = put_done-elsewhere s t m shape flight own o other
-    cache-elsewhere (row.DataExclusive content) does =
-        data_exclusive-elsewhere s t m shape flight own o other content does.met (none_seen at.cache.miss m.block does.met.2) does.late
-
+  -- another block, which sees that the message is gone, that numbers were taken, and that a miss or a put closes elsewhere
+  module _ (o : ℕ) (other : o ≢ m.block) where
     passing : (count : ℕ) → Leads (length s.nodes) (block_seen s t o) (λ x. x) (elsewhere (block_seen s t o) m.id count)
     passing count = elsewhere_leads (length s.nodes) (block_seen s t o) m.id count
 

@@ -19,7 +19,8 @@ use Rattle.fabric_coherence.specs.Leads.{Goes, Moves}
 use Rattle.fabric_coherence.specs.CacheEvents.{told_of, cache_event, left_at_cache, elsewhere_after}
 use Rattle.fabric_coherence.proofs.NetShape.{after_cache-shaped}
 use Rattle.fabric_coherence.proofs.CacheConditions.{IsAtCache}
-use Rattle.fabric_coherence.proofs.CacheOutcomes.{Hears, at_cache, row_loses, cache-own, cache-leads, cache-elsewhere, cache-passes, cache-fits}
+use Rattle.fabric_coherence.proofs.CacheOutcomes.{Hears, at_cache, row_loses, cache-own, cache-leads, cache-passes, cache-fits}
+use Rattle.fabric_coherence.proofs.CacheElsewhere.{cache-elsewhere}
 use Rattle.fabric_coherence.proofs.KeptCommon.{frames_stay, then_losing, goes_own, fits_moves}
 
 -- a message that is in flight, and whose receiver's interval has reached its tag
@@ -39,8 +40,8 @@ module _ (s : Fabric) (t : GhostState) (m : Message) (kept : FabricInvariant s t
         (elsewhere_after s t m taken) (cache-own s t m kept.shape flight of_block reached taken does)
         (then_losing (length s.nodes) (block_seen s t m.block) own (Hears s t m kept.shape flight of_block reached taken m.block) lost
         (cache-leads s t m kept.shape flight of_block reached taken does))
-        (λ o l other. cache-elsewhere s t m kept.shape flight of_block reached own o other taken does)
-        (λ o l other. cache-passes s t m kept.shape flight of_block reached own o other taken does)),
+        (λ o l other. cache-elsewhere s t m kept.shape flight own o other taken does)
+        (λ o l other. cache-passes s t m kept.shape flight of_block reached o other taken does)),
   )
     where
       reply : CacheReply
