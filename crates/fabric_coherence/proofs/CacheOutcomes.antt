@@ -19,6 +19,7 @@ use Rattle.sn_model.specs.NetEvents.{logged_at}
 use Rattle.sn_model.specs.Receivers.{receiver_of}
 use Rattle.sn_coherence.specs.Block as block
 use Rattle.sn_coherence.specs.OtherEvents.{end_miss_elsewhere, end_put_elsewhere}
+use Rattle.sn_coherence.specs.Consequences.{MeetsRows}
 use Rattle.sn_coherence.specs.Events.{Event, Invalidate, Allows, Arrives, after}
 use Rattle.sn_coherence.specs.Invariant.{BlockInvariant}
 use Rattle.sn_coherence.specs.Records.{Records, unreserves, records_after_event, MayHappen}
@@ -115,9 +116,11 @@ module _ (s : Fabric) (t : GhostState) (m : Message) (shape : IsShaped s) (fligh
   abbrev Becomes : CacheRow → block.Block
   Becomes taken = after (length s.nodes) here (cache_event m.id taken)
 
+  rows : MeetsRows here
+  rows = kept_meets_rows (length s.nodes) here shape.few kept
+
   pub at_cache : (taken : CacheRow) → receiver_of m.body ≡ receiver.Cache taken → IsAtCache s m taken
-  at_cache taken is =
-      condition.at_cache s t m flight (kept_meets_notes (length s.nodes) here kept) (kept_meets_rows (length s.nodes) here shape.few kept) taken is
+  at_cache taken is = condition.at_cache s t m flight (kept_meets_notes (length s.nodes) here kept) rows taken is
 
   arrives : (x : Body) → m.body ≡ x → Arrives here m.id (message_seen m x).body
   arrives x is = has_arrived s t m flight reached x is
@@ -126,9 +129,7 @@ module _ (s : Fabric) (t : GhostState) (m : Message) (shape : IsShaped s) (fligh
   pub cache-own : (taken : CacheRow) → IsAtCache s m taken → IsOwnRow s t m (left_at_cache s m taken) (Becomes taken)
   cache-own (row.ForwardRead r) does = forward_read-seen s t m shape flight r does.body does.met
   cache-own (row.ForwardWrite r due) does = forward_write-seen s t m shape flight does.met does.late r due does.body
-  cache-own (row.Invalidate r) does =
-      invalidate-seen s t m shape flight r does.body
-      (meets_invalidate s t m flight (kept_meets_rows (length s.nodes) here shape.few kept) r does.body)
+  cache-own (row.Invalidate r) does = invalidate-seen s t m shape flight r does.body (meets_invalidate s t m flight rows r does.body)
   cache-own (row.DataShared content) does =
       data_shared-seen s t m shape flight content does.body does.met (none_seen at.cache.miss m.block does.met.2)
   cache-own (row.DataModified content due) does = data_modified-seen s t m shape flight content due does.body does.met does.late

@@ -1,5 +1,5 @@
 -- Each row of a home is, for another block, a loss of the message and new numbers.
-use Rattle.std.proofs.Common.{◌≡◌, ◌≢◌, inr, ℕ, ◌+◌, ◌≤◌, Bool, true, false, List, refl, arith}
+use Rattle.std.proofs.Common.{◌≢◌, inr, ℕ, ◌+◌, ◌≤◌, Bool, true, false, List, refl, arith}
 use Rattle.std.specs.Prelude.{Option, Some, None, IfSome}
 use Rattle.log_buffer.specs.Log.{LogEntry, Old, log_with_note, logged_to, is_home_side}
 use Rattle.sn_base.specs.declared.log.Old.TheVariants.{WasHome, WasCache}
