@@ -1,15 +1,28 @@
 -- What the functions inside a home say of a row: the tests that come before it, and that it was done.
-use Rattle.std.specs.Prelude.{◌≡◌, ℕ, ◌+◌, ◌<◌, Bool, true, false, not, ◌&&◌, nat_le, length, Option, Some, None, is_some}
+use Rattle.std.specs.Prelude.{◌≡◌, ℕ, ◌+◌, ◌<◌, Bool, true, false, not, ◌&&◌, nat_le, nat_lt, length, Option, Some, None, is_some}
 use Rattle.sn_msg.specs.declared.Message.{Message}
 use Rattle.log_buffer.specs.Log.{LogData, has_entry}
 use Rattle.sn_model.specs.declared.rows.HomeMessage.{HomeMessage}
 use Rattle.sn_model.specs.declared.rows.HomeRow.{HomeRow}
 use Rattle.sn_model.specs.declared.rows.HomeRow.TheVariants as row
 use Rattle.sn_model.specs.Homes.{HomeEntry}
-use Rattle.sn_model.specs.HomeRows.{LoggedEntry, HomeReply, count_others, is_request}
+use Rattle.sn_model.specs.HomeRows.{LoggedEntry, HomeReply, count_others, is_request, home_reply}
 use Rattle.sn_model.specs.NetEvents.{outcome_at_home}
 use Rattle.home_directory.specs.declared.step.HomeStep.{HomeStep}
-use Rattle.home_directory.specs.Receipt.{Verdict, verdict_on, Sent}
+use Rattle.home_directory.specs.Home.{HomeData, entry_of}
+use Rattle.home_directory.specs.Receipt.{Verdict, verdict_on, Sent, entry_as_it_is}
+
+-- the entry of a block, with its node's log
+abbrev pub at_block : HomeData → LogData → ℕ → LoggedEntry
+at_block home log block = entry_as_it_is (entry_of home block) log.entries
+
+-- what a row leaves of a message's block
+abbrev pub reply_of : HomeData → LogData → ℕ → Message → HomeRow → HomeReply
+reply_of home log now m taken = home_reply (at_block home log m.block) m.block now m.tag m.from taken
+
+-- whether the row would need more entries than the log may hold
+abbrev pub is_over : LogData → HomeReply → Bool
+is_over log reply = nat_lt log.limit (length reply.after.log)
 
 -- whether a message waits, since it is a request and a transaction is open
 abbrev pub waits : HomeEntry → HomeMessage → Bool

@@ -10,10 +10,13 @@
 //! SafetyNet (Sorin, Martin, Hill, Wood, ISCA 2002).
 #![tactic(auto)]
 
-ghost use Rattle.std.specs.Prelude.{◌≡◌, ◌/◌, ◌%◌, ◌<◌, ◌≤◌, length, IfOk};
+ghost use Rattle.std.specs.Prelude.{◌≡◌, ◌/◌, ◌%◌, ◌<◌, ◌≤◌, true, false, length, IfOk};
 ghost use Rattle.sn_model.specs.Homes.{Itself};
-ghost use Rattle.home_directory.specs.Home.{HomeData, IsHome, entry_of, first_of, owner_of, least_open};
-ghost use Rattle.home_directory.specs.Receipt.{HasRowAt, NotesInOrder, receipt_of, Tells, look_of};
+ghost use Rattle.sn_model.specs.HomeRows.{home_row, noted_by_home};
+ghost use Rattle.sn_model.specs.Receivers.{IsNoteInOrder};
+ghost use Rattle.home_directory.specs.Home.{HomeData, IsHome, entry_of, with_entry, first_of, owner_of, least_open};
+ghost use Rattle.home_directory.specs.Receipt.{Sent, look_of};
+ghost use Rattle.home_directory.specs.Serving.{at_block, reply_of, is_over, verdict_for};
 
 mod entry;
 mod laws;
@@ -36,6 +39,7 @@ use log_buffer::LogBuffer;
 use open::Open;
 use sn_base::{Block, BlockNo, Image, Interval, Memory, NodeId, NodeSet};
 pub use sn_model::{Look, Out, Owner};
+use sn_model::{HomeMessage, HomeRow};
 use sn_msg::Message;
 use sparse_table::SparseTable;
 use std::alloc::Global;
@@ -98,39 +102,46 @@ impl Home {
         usize::from(block.number() / u16::from(self.nodes))
     }
 
-    /// Does the message's row, or refuses it and changes nothing: `HomeBusy` exactly where it is a request and a transaction
-    /// is open on its block, and else `LogFull` exactly where its row adds a note and the log has no room. A message that
-    /// has no row doesn't arrive: the layer above keeps that of all that is delivered.
-    pub fn receive(&mut self, message: &Message, now: Interval, log: &mut LogBuffer) -> HomeStep
-        requires mine { message.now.to ≡ self.old.node }
+    /// Does the row of a message that needn't wait. The log has room for what it notes.
+    pub fn carry_out(
+        &mut self,
+        row: &HomeRow,
+        message: &Message,
+        now: Interval,
+        log: &mut LogBuffer,
+    ) -> HomeStep
         requires here { message.now.block % self.old.nodes ≡ self.old.node }
-        requires due { message.now.tag ≤ now }
-        requires row { HasRowAt self.old message.now }
-        requires latest { NotesInOrder self.old log.old now message.now }
-        ensures home { self.new ≡ (receipt_of self.old log.old now message.now).home }
-        ensures log { log.new ≡ (receipt_of self.old log.old now message.now).log }
-        ensures step { Tells result (receipt_of self.old log.old now message.now).verdict }
+        requires latest { IsNoteInOrder log.old.entries true message.now.block
+            (noted_by_home (entry_of self.old message.now.block) now message.now.tag row.now) }
+        requires room { is_over log.old (reply_of self.old log.old now message.now row.now) ≡ false }
+        ensures home { self.new ≡ with_entry self.old message.now.block (reply_of self.old log.old now message.now row.now).after.entry }
+        ensures log { log.new ≡ record log.old { entries = (reply_of self.old log.old now message.now row.now).after.log } }
+        ensures sent { Sent result (reply_of self.old log.old now message.now row.now).sends }
     {
         let place = self.place(message.block);
         self.touched.touch(place);
         let entry = self.entries.at_mut(place);
-        let step = receive::receive(entry, message, now, log);
+        let step = receive::do_row(entry, message, row, now, log);
         let begun = entry.begun();
         open::relist(&mut self.opens, place, begun);
         step
     }
 
-    /// What `receive` would do with the message now: the same refusal, or how many messages it would send.
-    pub fn look(&self, message: &Message, now: Interval, log: &LogBuffer) -> Look
-        requires mine { message.now.to ≡ self.now.node }
-        requires here { message.now.block % self.now.nodes ≡ self.now.node }
-        requires due { message.now.tag ≤ now }
-        requires row { HasRowAt self.now message.now }
-        requires latest { NotesInOrder self.now log.now now message.now }
-        ensures { result ≡ look_of (receipt_of self.now log.now now message.now).verdict }
+    /// The row of what comes to the home, and what would be done with it now: the same refusal as `receive`'s, or how many
+    /// messages it would send.
+    pub fn look_at(
+        &self,
+        message: &Message,
+        asked: &HomeMessage,
+        now: Interval,
+        log: &LogBuffer,
+    ) -> (HomeRow, Look)
+        requires { message.now.block % self.now.nodes ≡ self.now.node }
+        ensures row { result.0 ≡ home_row (entry_of self.now message.now.block) message.now.from asked.now }
+        ensures look { result.1 ≡ look_of (verdict_for log.now.limit (at_block self.now log.now message.now.block) now message.now asked.now) }
     {
         let place = self.place(message.block);
-        receive::look(self.entries.at(place), message, now, log)
+        receive::look_at(self.entries.at(place), message, asked, now, log)
     }
 
     /// Who owns a block of this home.

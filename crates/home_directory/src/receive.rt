@@ -1,15 +1,16 @@
 //! What a message comes to at the entry of its block: its row, or a refusal that changes nothing.
-ghost use Rattle.std.specs.Prelude.{◌≡◌, ◌+◌, ◌<◌, List, true, false, Some, None, IfSome};
+ghost use Rattle.std.specs.Prelude.{◌≡◌, ◌+◌, ◌%◌, ◌<◌, ◌≤◌, List, true, false, Some, None, IfSome};
 ghost use Rattle.sn_base.specs.declared.log.LogEntry.{LogEntry};
 ghost use Rattle.log_buffer.specs.Log.{IsLog};
-ghost use Rattle.sn_model.specs.HomeRows.{count_others, read_row, write_row, home_row, home_reply, noted_by_unblock, noted_by_home, noted_for, noting};
+ghost use Rattle.sn_model.specs.HomeRows.{count_others, read_row, write_row, home_row, home_reply, noted_by_unblock, noted_by_home, noted_for};
 ghost use Rattle.sn_model.specs.Receivers.{IsNoteInOrder};
-ghost use Rattle.home_directory.specs.Receipt.{entry_as_it_is, verdict_of, left_by, Tells, look_of};
-ghost use Rattle.home_directory.specs.Serving.{IsRowDone, HasLogRoom, lacks_room, waits, verdict_for, count_sends};
+ghost use Rattle.home_directory.specs.Home.{entry_of, with_entry};
+ghost use Rattle.home_directory.specs.Receipt.{entry_as_it_is, left_by, Tells, look_of, HasRowAt, NotesInOrder, receipt_of};
+ghost use Rattle.home_directory.specs.Serving.{IsRowDone, HasLogRoom, lacks_room, waits, verdict_for, count_sends, at_block};
 
 use crate::entry::DirectoryEntry;
-use crate::rows;
 use crate::step::HomeStep;
+use crate::{Home, rows};
 use log_buffer::LogBuffer;
 use sn_base::{BlockNo, Interval, NodeId};
 use sn_model::{HomeMessage, HomeRow, Kind, Look, Owner, Receiver, receiver_of};
@@ -127,38 +128,45 @@ fn count_sends(entry: &DirectoryEntry, r: NodeId, row: &HomeRow) -> u8
     }
 }
 
-/// What would be done with what comes to the home.
-fn look_at(
+/// What would be done with what comes to the home, by its row.
+fn look_by(
     entry: &DirectoryEntry,
     message: &Message,
     asked: &HomeMessage,
+    row: &HomeRow,
     now: Interval,
     log: &LogBuffer,
 ) -> Look
+    requires { row.now ≡ home_row entry.now message.now.from asked.now }
     ensures { result ≡ look_of (verdict_for log.now.limit (entry_as_it_is entry.now log.now.entries) now message.now asked.now) }
 {
     if waits(entry, asked) {
         return Look::HomeBusy;
     }
-    let row = home_row(entry, message.from, asked);
-    if lacks_room(log, noted_by(entry, &row, now, message.tag), message.block) {
+    if lacks_room(log, noted_by(entry, row, now, message.tag), message.block) {
         return Look::LogFull;
     }
-    Look::Sends(count_sends(entry, message.from, &row))
+    Look::Sends(count_sends(entry, message.from, row))
 }
 
-/// What `receive` would do.
-pub fn look(entry: &DirectoryEntry, message: &Message, now: Interval, log: &LogBuffer) -> Look
-    ensures { result ≡ look_of (verdict_of log.now.limit (entry_as_it_is entry.now log.now.entries) now message.now) }
+/// The row of what comes to the home, and what would be done with it.
+pub fn look_at(
+    entry: &DirectoryEntry,
+    message: &Message,
+    asked: &HomeMessage,
+    now: Interval,
+    log: &LogBuffer,
+) -> (HomeRow, Look)
+    ensures row { result.0 ≡ home_row entry.now message.now.from asked.now }
+    ensures look { result.1 ≡ look_of (verdict_for log.now.limit (entry_as_it_is entry.now log.now.entries) now message.now asked.now) }
 {
-    match receiver_of(&message.body) {
-        Receiver::Home(asked) => look_at(entry, message, &asked, now, log),
-        Receiver::Cache(_) | Receiver::Controller(_) | Receiver::Clock(_) => Look::HomeBusy,
-    }
+    let row = home_row(entry, message.from, asked);
+    let look = look_by(entry, message, asked, &row, now, log);
+    (row, look)
 }
 
 /// Does a row for whose note the log has room.
-fn do_row(
+pub fn do_row(
     entry: &mut DirectoryEntry,
     message: &Message,
     row: &HomeRow,
@@ -188,46 +196,66 @@ fn do_row(
     }
 }
 
-/// Does the row of what comes to the home, or refuses it.
-fn serve(
-    entry: &mut DirectoryEntry,
-    message: &Message,
-    asked: &HomeMessage,
-    now: Interval,
-    log: &mut LogBuffer,
-) -> HomeStep
-    requires { IsNoteInOrder log.old.entries true message.now.block (noted_for entry.old now message.now asked.now) }
-    ensures left { entry_as_it_is entry.new log.new.entries
-        ≡ left_by (entry_as_it_is entry.old log.old.entries)
-        (verdict_for log.old.limit (entry_as_it_is entry.old log.old.entries) now message.now asked.now) }
-    ensures tells { Tells result (verdict_for log.old.limit (entry_as_it_is entry.old log.old.entries) now message.now asked.now) }
-    ensures limit { log.new.limit ≡ log.old.limit }
-{
-    if waits(entry, asked) {
-        return HomeStep::HomeBusy;
+impl Home {
+    /// Does the message's row, or refuses it and changes nothing: `HomeBusy` exactly where it is a request and a transaction
+    /// is open on its block, and else `LogFull` exactly where its row adds a note and the log has no room. A message that
+    /// has no row doesn't arrive: the layer above keeps that of all that is delivered.
+    pub fn receive(&mut self, message: &Message, now: Interval, log: &mut LogBuffer) -> HomeStep
+        requires mine { message.now.to ≡ self.old.node }
+        requires here { message.now.block % self.old.nodes ≡ self.old.node }
+        requires due { message.now.tag ≤ now }
+        requires row { HasRowAt self.old message.now }
+        requires latest { NotesInOrder self.old log.old now message.now }
+        ensures home { self.new ≡ (receipt_of self.old log.old now message.now).home }
+        ensures log { log.new ≡ (receipt_of self.old log.old now message.now).log }
+        ensures step { Tells result (receipt_of self.old log.old now message.now).verdict }
+    {
+        match receiver_of(&message.body) {
+            Receiver::Home(asked) => self.serve(message, &asked, now, log),
+            Receiver::Cache(_) | Receiver::Controller(_) | Receiver::Clock(_) => HomeStep::HomeBusy,
+        }
     }
-    let row = home_row(entry, message.from, asked);
-    if lacks_room(log, noted_by(entry, &row, now, message.tag), message.block) {
-        return HomeStep::LogFull;
-    }
-    do_row(entry, message, &row, now, log)
-}
 
-/// Does the message's row, or refuses it.
-pub fn receive(
-    entry: &mut DirectoryEntry,
-    message: &Message,
-    now: Interval,
-    log: &mut LogBuffer,
-) -> HomeStep
-    requires { IsNoteInOrder log.old.entries true message.now.block (noting entry.old now message.now message.now.body) }
-    ensures left { entry_as_it_is entry.new log.new.entries
-        ≡ left_by (entry_as_it_is entry.old log.old.entries) (verdict_of log.old.limit (entry_as_it_is entry.old log.old.entries) now message.now) }
-    ensures tells { Tells result (verdict_of log.old.limit (entry_as_it_is entry.old log.old.entries) now message.now) }
-    ensures limit { log.new.limit ≡ log.old.limit }
-{
-    match receiver_of(&message.body) {
-        Receiver::Home(asked) => serve(entry, message, &asked, now, log),
-        Receiver::Cache(_) | Receiver::Controller(_) | Receiver::Clock(_) => HomeStep::HomeBusy,
+    /// What `receive` would do with the message now: the same refusal, or how many messages it would send.
+    pub fn look(&self, message: &Message, now: Interval, log: &LogBuffer) -> Look
+        requires mine { message.now.to ≡ self.now.node }
+        requires here { message.now.block % self.now.nodes ≡ self.now.node }
+        requires due { message.now.tag ≤ now }
+        requires row { HasRowAt self.now message.now }
+        requires latest { NotesInOrder self.now log.now now message.now }
+        ensures { result ≡ look_of (receipt_of self.now log.now now message.now).verdict }
+    {
+        match receiver_of(&message.body) {
+            Receiver::Home(asked) => self.look_at(message, &asked, now, log).1,
+            Receiver::Cache(_) | Receiver::Controller(_) | Receiver::Clock(_) => Look::HomeBusy,
+        }
+    }
+
+    /// Does the row of what comes to the home, or refuses it.
+    fn serve(
+        &mut self,
+        message: &Message,
+        asked: &HomeMessage,
+        now: Interval,
+        log: &mut LogBuffer,
+    ) -> HomeStep
+        requires here { message.now.block % self.old.nodes ≡ self.old.node }
+        requires latest { IsNoteInOrder log.old.entries true message.now.block
+            (noted_for (entry_of self.old message.now.block) now message.now asked.now) }
+        ensures home { self.new ≡ with_entry self.old message.now.block
+            (left_by (at_block self.old log.old message.now.block)
+            (verdict_for log.old.limit (at_block self.old log.old message.now.block) now message.now asked.now)).entry }
+        ensures log { log.new ≡ record log.old {
+          entries = (left_by (at_block self.old log.old message.now.block)
+              (verdict_for log.old.limit (at_block self.old log.old message.now.block) now message.now asked.now)).log;
+        } }
+        ensures tells { Tells result (verdict_for log.old.limit (at_block self.old log.old message.now.block) now message.now asked.now) }
+    {
+        let (row, look) = self.look_at(message, asked, now, log);
+        match look {
+            Look::HomeBusy => HomeStep::HomeBusy,
+            Look::LogFull => HomeStep::LogFull,
+            Look::Sends(_) => self.carry_out(&row, message, now, log),
+        }
     }
 }

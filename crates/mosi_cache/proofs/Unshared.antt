@@ -4,12 +4,12 @@ use Rattle.std.proofs.Common.{inl, inr, refl, sym, ap, ◌∙◌, subst, arith, 
 use Rattle.std.specs.Prelude.{map, nat_eq, replicate}
 use Rattle.std.proofs.Math.ListN.{get_or-map, length-map}
 use Rattle.std.proofs.lemmas.Bool.Decides.{nat_tests}
-use Rattle.std.proofs.lemmas.List.{get_or-set_same, get_or-set_other, get_or-replicate, length-replicate, drop_more, drop_all, ext_get_or}
+use Rattle.std.proofs.lemmas.List.{get_or-set_same, get_or-set_other, length-replicate, drop_more, drop_all, ext_get_or}
 use Rattle.std.proofs.lemmas.Option.{none-some}
-use Rattle.touched_places.specs.Touched.{is_marked, is_listed, IsListOf}
+use Rattle.touched_places.specs.Touched.{is_listed, IsListOf}
 use Rattle.touched_places.proofs.Listing.{unlisted, unmarked-first}
 use Rattle.cache_array.specs.Slots.{FrameSlots, AreSlots, block_at, frame_of}
-use Rattle.cache_array.proofs.Slots.{found-at, at-inside, frame-found, frame-none, none-at}
+use Rattle.cache_array.proofs.Slots.{found-at, frame-found, frame-none, none-at}
 use Rattle.sn_model.specs.declared.cache.LineState.{LineState}
 use Rattle.sn_model.specs.declared.cache.LineState.TheVariants.{Absent, Shared, Owned, Modified, Exclusive}
 use Rattle.sn_model.specs.Caches.{no_line, is_present, block_count}

@@ -100,8 +100,8 @@ impl Cache {
         }
     }
 
-    /// What would be done with a message of this row.
-    fn look_at(&self, row: &CacheRow, message: &Message, now: Interval, log: &LogBuffer) -> Look
+    /// The same by the row that the message has.
+    pub fn look_at(&self, row: &CacheRow, message: &Message, now: Interval, log: &LogBuffer) -> Look
         ensures { result ≡ look_by log.now (reply_of self.now log.now now message.now row.now) }
     {
         let room = log.room();
@@ -125,30 +125,36 @@ impl Cache {
         ensures cache { self.new ≡ cache_by self.old log.old (row_of self.old log.old now message.now) }
         ensures log { log.new ≡ log_by log.old (row_of self.old log.old now message.now) }
     {
-        if self.look(message, now, log) == Look::LogFull {
-            return CacheStep::LogFull;
-        }
-        self.take(message, now, log)
-    }
-
-    /// Does the row of the message, for which the log has room.
-    fn take(&mut self, message: &Message, now: Interval, log: &mut LogBuffer) -> CacheStep
-        requires row { MeetsRow (with_entries self.old log.old.entries) message.now.block message.now.body }
-        requires last { IsNoteInOrder log.old.entries false message.now.block (noted_in now message.now.tag message.now.body) }
-        requires room { is_over log.old (row_of self.old log.old now message.now) ≡ false }
-        ensures done { IsRowDone self.old self.new result (row_of self.old log.old now message.now) }
-        ensures log { log.new ≡ record log.old { entries = (row_of self.old log.old now message.now).after.log } }
-    {
         match receiver_of(&message.body) {
-            Receiver::Cache(row) => self.do_row(&row, message, now, log),
+            Receiver::Cache(row) => self.take(&row, message, now, log),
             Receiver::Home(_) | Receiver::Controller(_) | Receiver::Clock(_) => {
                 CacheStep::Took(None, None)
             }
         }
     }
 
-    /// Does a row, for which the log has room.
-    fn do_row(
+    /// Does a row, or nothing where that needs a log entry for which there is no room.
+    fn take(
+        &mut self,
+        row: &CacheRow,
+        message: &Message,
+        now: Interval,
+        log: &mut LogBuffer,
+    ) -> CacheStep
+        requires meets { MeetsCacheRow (with_entries self.old log.old.entries) message.now.block row.now }
+        requires last { IsNoteInOrder log.old.entries false message.now.block (noted_by_cache now message.now.tag row.now) }
+        ensures answer { result ≡ step_by log.old (reply_of self.old log.old now message.now row.now) }
+        ensures cache { self.new ≡ cache_by self.old log.old (reply_of self.old log.old now message.now row.now) }
+        ensures log { log.new ≡ log_by log.old (reply_of self.old log.old now message.now row.now) }
+    {
+        if self.look_at(row, message, now, log) == Look::LogFull {
+            return CacheStep::LogFull;
+        }
+        self.carry_out(row, message, now, log)
+    }
+
+    /// Does the row of a message that has come to this node. The log has room for what it notes.
+    pub fn carry_out(
         &mut self,
         row: &CacheRow,
         message: &Message,

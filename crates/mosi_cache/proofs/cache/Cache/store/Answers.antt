@@ -3,7 +3,6 @@ use Rattle.byteorder.specs.Endian.{little_bytes}
 use Rattle.sn_base.specs.Blocks.{bytes_of, stored_in}
 use Rattle.rv_core.specs.Core.{block_of}
 use Rattle.sn_model.specs.Caches.{line_of, is_present, is_writable_state, line_at}
-use Rattle.sn_model.specs.Access.{place_in_block}
 use Rattle.mosi_cache.specs.Controller.{CacheData}
 use Rattle.mosi_cache.specs.Probe.{cache_after_write}
 use Rattle.mosi_cache.proofs.Fits.{fits-line, writable-present}

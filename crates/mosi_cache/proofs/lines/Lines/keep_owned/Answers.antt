@@ -1,4 +1,4 @@
-use Rattle.std.proofs.Common.{◌≡◌, ℕ, List, [], length, sym, ap, ◌∙◌}
+use Rattle.std.proofs.Common.{ℕ, List, [], length, sym, ap, ◌∙◌}
 use Rattle.std.specs.Prelude.{map}
 use Rattle.sn_model.specs.Caches.{Line}
 use Rattle.mosi_cache.specs.Frames.{LinesData, lines_of}

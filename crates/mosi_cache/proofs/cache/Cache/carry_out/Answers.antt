@@ -1,7 +1,7 @@
 use Rattle.std.proofs.Common.{sym, subst}
 use Rattle.sn_model.specs.declared.rows.CacheRow.{CacheRow}
 use Rattle.mosi_cache.specs.Rows.{reply_of, IsRowDone}
-use Rattle.mosi_cache.proofs.cache.Cache.do_row.Goals as goal
+use Rattle.mosi_cache.proofs.cache.Cache.carry_out.Goals as goal
 
 pub returns-in-ForwardRead-clause-done : goal.returns-in-ForwardRead-clause-done
 returns-in-ForwardRead-clause-done c =
