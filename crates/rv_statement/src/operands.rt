@@ -1,8 +1,51 @@
 //! Registers and numbers as they are written.
-ghost use Rattle.std.specs.Prelude.{◌≡◌, ℕ, ◌<◌, ◌≤◌, ◌^◌, ◌*◌, ◌<ℤ◌, pos, neg_ℤ, IfSome, slice_index_or, [], codes};
+ghost use Rattle.std.specs.Prelude.{◌≡◌, ℕ, ◌<◌, ◌≤◌, ◌^◌, ◌*◌, ◌<ℤ◌, pos, neg_ℤ, IfSome, slice_index_or, [], codes, length, map};
 ghost use Rattle.std.specs.Str.{bytes_eq};
 ghost use Rattle.rv_statement.specs.Operands.{register_names, is_named, register_of, digit_value, digits_of, number_of};
 ghost use Rattle.rv_statement.specs.Operands.{begins_name, in_name, all_in_name, is_name};
+
+/// The two names of each register, from x0 up.
+const NAMES: &[(&str, &str)] = &[
+    ("x0", "zero"),
+    ("x1", "ra"),
+    ("x2", "sp"),
+    ("x3", "gp"),
+    ("x4", "tp"),
+    ("x5", "t0"),
+    ("x6", "t1"),
+    ("x7", "t2"),
+    ("x8", "s0"),
+    ("x9", "s1"),
+    ("x10", "a0"),
+    ("x11", "a1"),
+    ("x12", "a2"),
+    ("x13", "a3"),
+    ("x14", "a4"),
+    ("x15", "a5"),
+    ("x16", "a6"),
+    ("x17", "a7"),
+    ("x18", "s2"),
+    ("x19", "s3"),
+    ("x20", "s4"),
+    ("x21", "s5"),
+    ("x22", "s6"),
+    ("x23", "s7"),
+    ("x24", "s8"),
+    ("x25", "s9"),
+    ("x26", "s10"),
+    ("x27", "s11"),
+    ("x28", "t3"),
+    ("x29", "t4"),
+    ("x30", "t5"),
+    ("x31", "t6"),
+];
+
+fn all_names() -> &'static [(&'static str, &'static str)]
+    ensures names { map (λ names. (names.0.now, names.1.now)) result.now ≡ register_names }
+    ensures count { length result.now ≡ 32 }
+{
+    NAMES
+}
 
 /// The two names of a register.
 fn names(number: u8) -> (&'static str, &'static str)
@@ -10,40 +53,7 @@ fn names(number: u8) -> (&'static str, &'static str)
     ensures plain { result.0.now ≡ (slice_index_or register_names number ([], [])).0 }
     ensures usual { result.1.now ≡ (slice_index_or register_names number ([], [])).1 }
 {
-    match number {
-        0 => ("x0", "zero"),
-        1 => ("x1", "ra"),
-        2 => ("x2", "sp"),
-        3 => ("x3", "gp"),
-        4 => ("x4", "tp"),
-        5 => ("x5", "t0"),
-        6 => ("x6", "t1"),
-        7 => ("x7", "t2"),
-        8 => ("x8", "s0"),
-        9 => ("x9", "s1"),
-        10 => ("x10", "a0"),
-        11 => ("x11", "a1"),
-        12 => ("x12", "a2"),
-        13 => ("x13", "a3"),
-        14 => ("x14", "a4"),
-        15 => ("x15", "a5"),
-        16 => ("x16", "a6"),
-        17 => ("x17", "a7"),
-        18 => ("x18", "s2"),
-        19 => ("x19", "s3"),
-        20 => ("x20", "s4"),
-        21 => ("x21", "s5"),
-        22 => ("x22", "s6"),
-        23 => ("x23", "s7"),
-        24 => ("x24", "s8"),
-        25 => ("x25", "s9"),
-        26 => ("x26", "s10"),
-        27 => ("x27", "s11"),
-        28 => ("x28", "t3"),
-        29 => ("x29", "t4"),
-        30 => ("x30", "t5"),
-        _ => ("x31", "t6"),
-    }
+    all_names()[usize::from(number)]
 }
 
 /// Whether a text is one of the names of a register.
