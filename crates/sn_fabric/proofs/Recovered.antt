@@ -1,7 +1,7 @@
 -- What a recovery comes to, by what the parts say.
 use Rattle.std.proofs.Common.{◌≡◌, ◌≢◌, ℕ, suc, ◌+◌, ◌%◌, ◌<◌, ◌≤◌, ◌^◌, true, false, List, [], ◌∷◌, length, get_or, map, refl, sym, ap}
 use Rattle.std.proofs.Common.{◌∙◌, subst, arith}
-use Rattle.std.specs.Prelude.{None}
+use Rattle.std.specs.Prelude.{Option, Some, None, Result, Ok, Err, IfSome}
 use Rattle.std.specs.List.{sum_by}
 use Rattle.std.proofs.Math.Nat.{mod-lt}
 use Rattle.std.proofs.lemmas.Bool.Decides.{nat_tests}
@@ -203,6 +203,19 @@ recovery-comes config p k after net count_undone dropped sends a point joined co
     (Recovered (record { to = k; undone = j; dropped = length (net_as p.net).flights }))) (sym (eu ∙ undone-as k p.units))
     ∙ ap (λ (j : ℕ). step_with_answer (fabric_as (restored_parts p k after net))
     (Recovered (record { to = k; undone = count_undone; dropped = j }))) (length-map p.net.flights _ ∙ sym ed)))
+
+-- what isn't refused joins all nodes
+
+joined_by : {X : Type 0} (o : Option X) (dropped : ℕ) → IfSome o (λ (q : X). ◌≡◌ {A = Result ℕ X} (Ok dropped) (Err q)) → o ≡ None
+joined_by None dropped h = refl
+joined_by (Some q) dropped h = absurd (cc)
+
+pub joined-then : (config : Config) (p : Parts) → AreWhole config p → (dropped : ℕ) →
+    IfSome (first_cut_off (living_now p.net)) (λ (q : ℕ × ℕ). ◌≡◌ {A = Result ℕ (ℕ × ℕ)} (Ok dropped) (Err q)) →
+    first_cut_off (living_switches (fabric_as p)) ≡ None
+joined-then config p w dropped h =
+    ap (λ (k : ℕ). first_cut_off (record { nodes = k; dead = p.net.dead })) (count-nodes p ∙ w.count ∙ sym w.count_routes)
+    ∙ joined_by (first_cut_off (living_now p.net)) dropped h
 
 -- each node can be put back to the recovery point
 
