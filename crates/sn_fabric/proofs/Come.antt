@@ -5,20 +5,16 @@ use Rattle.std.specs.Prelude.{nat_lt, nat_eq, if◌then◌else◌, filter, map}
 use Rattle.std.specs.Option.{option_map}
 use Rattle.std.proofs.lemmas.List.{length-map}
 use Rattle.sn_base.specs.declared.config.Config.{Config}
-use Rattle.sn_base.specs.declared.event.Answer.TheVariants.{Delivered, Held, NotArrived}
+use Rattle.sn_base.specs.declared.event.Answer.TheVariants.{Held, NotArrived}
 use Rattle.sn_msg.specs.declared.Message.{Message}
-use Rattle.sn_msg.specs.declared.Body.{Body}
-use Rattle.sn_msg.specs.declared.Body.TheVariants.{Ready, Advance}
 use Rattle.switch_net.specs.declared.flight.Flight.{Flight as Carried}
 use Rattle.switch_net.specs.declared.answers.TakeFault.{TakeFault}
 use Rattle.switch_net.specs.declared.answers.TakeFault.TheVariants as fault
 use Rattle.switch_net.specs.Net.{find_flight, take_answer, has_arrived, without}
-use Rattle.sn_model.specs.Fabric.{Fabric, Flight, FabricStep, node_at, step_refused}
+use Rattle.sn_model.specs.Fabric.{Fabric, Flight, node_at, step_refused}
 use Rattle.sn_model.specs.FabricEvents.{moved_by, Deliver}
 use Rattle.sn_model.specs.Net.{flight_of}
 use Rattle.sn_model.specs.NetEvents.{outcome_of, delivers, delivers_flight, step_of_delivery}
-use Rattle.sn_model.specs.Receivers.{receiver_of}
-use Rattle.sn_model.specs.declared.rows.Receiver.TheVariants.{Controller, Clock}
 use Rattle.fabric_bounds.specs.Coherent.{Keeps}
 use Rattle.fabric_bounds.specs.Steps.{IsInFlight}
 use Rattle.fabric_bounds.proofs.InFlight.{in_flight}
@@ -92,14 +88,6 @@ module _ (config : Config) (s : Fabric) (m : Message) (h : HasCome s m) where
   pub come-reached : nat_lt (node_at s m.to).now m.tag ≡ false → step_of_delivery config s m.id ≡ delivers config s m (outcome_of s m m.body)
   come-reached e = come_to ∙ ap (λ (b : Bool). if b then step_refused s Held else delivers config s m (outcome_of s m m.body)) e
 
-  reached_step : (b : Bool) → nat_lt (node_at s m.to).now m.tag ≡ b → (step_of_delivery config s m.id).answer ≡ Delivered → b ≡ false
-  reached_step false e d = refl
-  reached_step true e d = let k : Held ≡ Delivered = sym (ap (λ (x : FabricStep). x.answer) (come-held e)) ∙ d in absurd (cc)
-
-  -- what is delivered isn't held
-  pub reached-of : (step_of_delivery config s m.id).answer ≡ Delivered → nat_lt (node_at s m.to).now m.tag ≡ false
-  reached-of d = reached_step (nat_lt (node_at s m.to).now m.tag) refl d
-
 pub come-in-flight : (s : Fabric) (m : Message) → Keeps s → HasCome s m → IsInFlight s m
 come-in-flight s m k h = in_flight s m.id (record { message = m; place = h.place }) k.1.shape h.found
 
@@ -139,13 +127,3 @@ fewer-without p m h =
     let b : length (others (map flight_as p.net.flights) m.id) ≡ length (without p.net.flights m.id) =
     sym (ap (λ (fs : List Flight). length fs) (without-as p.net.flights m.id)) ∙ length-map (without p.net.flights m.id) flight_as in
     omega arith
-
--- the news that a message brings, by who takes it
-
-pub is-ready : (x : Body) (k : ℕ) → receiver_of x ≡ Controller k → x ≡ Ready k
-is-ready (Ready j) k e = let same : j ≡ k = cc in ap Ready same
-is-ready _ k e = absurd (cc)
-
-pub is-advance : (x : Body) (k : ℕ) → receiver_of x ≡ Clock k → x ≡ Advance k
-is-advance (Advance j) k e = let same : j ≡ k = cc in ap Advance same
-is-advance _ k e = absurd (cc)

@@ -1,25 +1,19 @@
 -- What a delivery comes to, by what was foreseen.
-use Rattle.std.proofs.Common.{◌≡◌, ℕ, ◌+◌, ◌≤◌, Bool, true, false, not, length, get_or, Option, Some, None, Err, refl, sym, ap, ◌∙◌, arith}
+use Rattle.std.proofs.Common.{◌≡◌, ℕ, ◌+◌, ◌≤◌, Bool, true, false, not, length, get_or, Option, Some, None, refl, sym, ap, ◌∙◌, arith}
 use Rattle.std.specs.Prelude.{nat_lt, if◌then◌else◌, []}
 use Rattle.std.proofs.lemmas.Bool.Decides.{nat_tests}
 use Rattle.sn_base.specs.declared.config.Config.{Config}
 use Rattle.sn_base.specs.declared.event.Answer.{Answer}
 use Rattle.sn_base.specs.declared.event.Answer.TheVariants.{Delivered, Held, LogFull, NetFull, NotArrived}
 use Rattle.sn_msg.specs.declared.Message.{Message}
-use Rattle.switch_net.specs.declared.answers.TakeFault.{TakeFault}
-use Rattle.switch_net.specs.declared.answers.TakeFault.TheVariants as fault
-use Rattle.switch_net.specs.Net.{find_flight, take_answer}
-use Rattle.sn_model.specs.declared.rows.Receiver.TheVariants.{Controller, Clock}
-use Rattle.sn_model.specs.Receivers.{receiver_of}
 use Rattle.sn_model.specs.Fabric.{Fabric, Flight, Node, FabricStep, node_at, step_refused}
 use Rattle.sn_model.specs.Net.{flight_of, is_there}
 use Rattle.sn_model.specs.NetEvents.{Outcome, Busy, AtCache, AtHome, Noted, outcome_of, delivers, delivers_flight, step_of_delivery}
-use Rattle.sn_model.specs.NetEvents.{answer_to}
 use Rattle.sn_fabric.specs.declared.node.NodeUnit.{NodeUnit}
-use Rattle.sn_fabric.specs.Deliveries.{HasCome, fault_as}
+use Rattle.sn_fabric.specs.Deliveries.{HasCome}
 use Rattle.sn_fabric.specs.Fabric.{FabricData, IsAfter}
 use Rattle.sn_fabric.specs.Parts.{Parts, fabric_as, AreParts}
-use Rattle.sn_fabric.proofs.Come.{come-held, come-reached, fault-shown, is-ready, is-advance}
+use Rattle.sn_fabric.proofs.Come.{come-held}
 use Rattle.sn_fabric.proofs.Given.{node-read}
 
 -- whether the message is held, by the clock that was read
@@ -30,35 +24,11 @@ module _ (config : Config) (p : Parts) (a : AreParts config p) (m : Message) (h 
   test_is : nat_lt (node_at (fabric_as p) m.to).now m.tag ≡ nat_lt x.clock.interval m.tag
   test_is = ap (λ (i : ℕ). nat_lt i m.tag) now_is
 
-  pub held-answer : nat_lt x.clock.interval m.tag ≡ true → Held ≡ (step_of_delivery config (fabric_as p) m.id).answer
-  held-answer e = sym (ap (λ (y : FabricStep). y.answer) (come-held config (fabric_as p) m h (test_is ∙ e)))
+  pub held : nat_lt x.clock.interval m.tag ≡ true → step_of_delivery config (fabric_as p) m.id ≡ step_refused (fabric_as p) Held
+  held e = come-held config (fabric_as p) m h (test_is ∙ e)
 
   pub not-held : nat_lt x.clock.interval m.tag ≡ false → m.tag ≤ (node_at (fabric_as p) m.to).now
   not-held e = let k : nat_lt (node_at (fabric_as p) m.to).now m.tag ≡ false = test_is ∙ e in grind (arith, nat_tests, k)
-
--- where it isn't, the answer is what its receiver says
-module _ (config : Config) (s : Fabric) (m : Message) (h : HasCome s m) (l : m.tag ≤ (node_at s m.to).now) where
-  reached : nat_lt (node_at s m.to).now m.tag ≡ false
-  reached = grind (arith, nat_tests, l)
-
-  pub answer-given : (said : Answer) → said ≡ answer_to config s m → said ≡ (step_of_delivery config s m.id).answer
-  answer-given said e = e ∙ sym (ap (λ (y : FabricStep). y.answer) (come-reached config s m h reached))
-
-  pub report-given : (k : ℕ) → receiver_of m.body ≡ Controller k → Delivered ≡ (step_of_delivery config s m.id).answer
-  report-given k e = answer-given Delivered (sym (ap (λ x. (delivers config s m (outcome_of s m x)).answer) (is-ready m.body k e)))
-
-  pub advance-given : (k : ℕ) → receiver_of m.body ≡ Clock k → Delivered ≡ (step_of_delivery config s m.id).answer
-  advance-given k e = answer-given Delivered (sym (ap (λ x. (delivers config s m (outcome_of s m x)).answer) (is-advance m.body k e)))
-
--- where there is nothing to take, nothing is delivered
-
-no_fault : (why : TakeFault) → fault_as why ≡ Delivered → ⊥
-no_fault fault.NoMessage e = cc
-no_fault fault.NotArrived e = cc
-
-pub none-delivered : (config : Config) (p : Parts) (id : ℕ) (why : TakeFault) → take_answer (find_flight p.net.flights id) ≡ Err why →
-    (step_of_delivery config (fabric_as p) id).answer ≡ Delivered → ⊥
-none-delivered config p id why e d = no_fault why (sym (ap (λ (y : FabricStep). y.answer) (fault-shown config p id why e)) ∙ d)
 
 -- what isn't delivered stays where it is
 
@@ -95,12 +65,17 @@ flight_stays config s (Some f) h =
 undelivered : (config : Config) (s : Fabric) (id : ℕ) → Stays s (step_of_delivery config s id)
 undelivered config s id h = flight_stays config s (flight_of s.net.flights id) h
 
-module _ (d e : FabricData) (id : ℕ) (said : Answer) (es : said ≡ (step_of_delivery d.config d.fabric id).answer) (ne : said ≡ Delivered → ⊥) where
-  stays : step_of_delivery d.config d.fabric id ≡ step_refused d.fabric (step_of_delivery d.config d.fabric id).answer
-  stays = undelivered d.config d.fabric id (λ k. ne (es ∙ k))
+-- so it is refused with the answer that was foreseen
+pub refused : (config : Config) (s : Fabric) (id : ℕ) (said : Answer) → said ≡ (step_of_delivery config s id).answer →
+    (said ≡ Delivered → ⊥) → step_of_delivery config s id ≡ step_refused s said
+refused config s id said es ne = undelivered config s id (λ k. ne (es ∙ k)) ∙ ap (step_refused s) (sym es)
 
-  pub undelivered-after : e ≡ record d { sent = [] } → IsAfter d e said (step_of_delivery d.config d.fabric id)
-  undelivered-after ee = record { answer = es; left = ee ∙ ap (λ (m : FabricStep). record d { fabric = m.fabric; sent = m.sent }) (sym stays) }
+module _ (d e : FabricData) (id : ℕ) (said : Answer) (is : step_of_delivery d.config d.fabric id ≡ step_refused d.fabric said) where
+  pub refused-after : e ≡ record d { sent = [] } → IsAfter d e said (step_of_delivery d.config d.fabric id)
+  refused-after ee = record {
+    answer = sym (ap (λ (m : FabricStep). m.answer) is);
+    left = ee ∙ ap (λ (m : FabricStep). record d { fabric = m.fabric; sent = m.sent }) (sym is);
+  }
 
-  pub undelivered-tells : None ≡ (step_of_delivery d.config d.fabric id).told
-  undelivered-tells = sym (ap (λ (m : FabricStep). m.told) stays)
+  pub refused-tells : None ≡ (step_of_delivery d.config d.fabric id).told
+  refused-tells = sym (ap (λ (m : FabricStep). m.told) is)

@@ -4,7 +4,6 @@ use Rattle.std.specs.Prelude.{nat_lt}
 use Rattle.std.proofs.lemmas.List.{length-map}
 use Rattle.std.proofs.lemmas.Bool.Decides.{nat_tests}
 use Rattle.sn_base.specs.declared.config.Config.{Config}
-use Rattle.sn_base.specs.declared.event.Answer.TheVariants.{Delivered}
 use Rattle.sn_base.specs.declared.log.LogEntry.{LogEntry}
 use Rattle.sn_msg.specs.declared.Message.{Message}
 use Rattle.switch_net.specs.Net.{NetData, without}
@@ -12,14 +11,13 @@ use Rattle.sn_model.specs.declared.cache.Out.{Out}
 use Rattle.sn_model.specs.Fabric as model
 use Rattle.sn_model.specs.Fabric.{Fabric, Node, node_at}
 use Rattle.sn_model.specs.Net.{without_flight}
-use Rattle.sn_model.specs.NetEvents.{step_of_delivery}
 use Rattle.fabric_bounds.specs.Steps.{IsInFlight}
 use Rattle.sn_fabric.specs.declared.node.NodeUnit.{NodeUnit}
 use Rattle.sn_fabric.specs.Deliveries.{HasCome, GoTo}
 use Rattle.sn_fabric.specs.Nets.{flight_as, net_as}
 use Rattle.sn_fabric.specs.Parts.{Parts, fabric_as, node_as, unit_at, IsUnit, AreParts}
-use Rattle.sn_fabric.proofs.Come.{come-in-flight, reached-of, fewer-without}
-use Rattle.sn_fabric.proofs.Looks.{HasRoomFor}
+use Rattle.sn_fabric.specs.Plans.{HasRoomFor}
+use Rattle.sn_fabric.proofs.Come.{come-in-flight, fewer-without}
 use Rattle.sn_fabric.proofs.Nets.{without-as}
 use Rattle.sn_fabric.proofs.Parts.{node-at, count-nodes, unit-read}
 
@@ -69,12 +67,3 @@ module _ (config : Config) (p : Parts) (a : AreParts config p) (m : Message) (h 
 
     pub serves : IsUnit config m.to x
     serves = subst (IsUnit config m.to) (sym unit-is) (a.whole.units m.to (subst (λ (k : ℕ). m.to < k) a.whole.count inside))
-
-    -- its interval has reached the message's tag
-    pub tag-reached : (now : ℕ) → now ≡ x.clock.interval → m.tag ≤ (node_at (fabric_as p) m.to).now → m.tag ≤ now
-    tag-reached now en l = let k : m.tag ≤ x.clock.interval = subst (λ (y : Node). m.tag ≤ y.now) node-read l in omega arith
-
-pub delivered-reached : (config : Config) (s : Fabric) (m : Message) → HasCome s m → (step_of_delivery config s m.id).answer ≡ Delivered →
-    m.tag ≤ (node_at s m.to).now
-delivered-reached config s m h d =
-    let k : nat_lt (node_at s m.to).now m.tag ≡ false = reached-of config s m h d in grind (arith, nat_tests, k)

@@ -22,9 +22,12 @@ pub mod GoingTo
 pub mod Outs
 pub mod Looks
 pub mod Given
+pub mod Planned
 pub mod ToCache
+pub mod DoneAtCache
 pub mod HomesAfter
 pub mod ToHome
+pub mod DoneAtHome
 pub mod ToNode
 pub mod Delivered
 pub mod GivenBack

@@ -1,24 +1,24 @@
 -- The answer to a delivery, by what its receiver says beforehand.
-use Rattle.std.proofs.Common.{◌≡◌, ℕ, ◌+◌, Bool, true, false, List, length, Option, Some, None, refl, sym, ap, ◌∙◌, nat_lt, if◌then◌else◌}
+use Rattle.std.proofs.Common.{◌≡◌, ℕ, ◌+◌, Bool, true, false, ◌&&◌, List, length, Option, Some, None, refl, sym, ap, ◌∙◌, nat_lt, if◌then◌else◌}
+use Rattle.std.specs.Prelude.{is_some}
 use Rattle.sn_base.specs.declared.config.Config.{Config}
 use Rattle.sn_base.specs.declared.event.Answer.TheVariants.{Delivered, LogFull, NetFull}
 use Rattle.sn_base.specs.declared.log.LogEntry.{LogEntry}
 use Rattle.sn_msg.specs.declared.Message.{Message}
-use Rattle.sn_msg.specs.declared.Body.{Body}
 use Rattle.log_buffer.specs.Log.{LogData}
 use Rattle.mosi_cache.specs.Rows.{look_by}
-use Rattle.home_directory.specs.Receipt.{look_of, verdict_on, outcome_for, outcome_at}
+use Rattle.home_directory.specs.Receipt.{look_of, verdict_on}
+use Rattle.home_directory.specs.Serving.{verdict_for}
 use Rattle.sn_model.specs.declared.cache.Out.{Out}
 use Rattle.sn_model.specs.declared.look.Look.TheVariants.{Sends, LogFull as SeesLogFull}
-use Rattle.sn_model.specs.declared.rows.Receiver.{Receiver}
-use Rattle.sn_model.specs.declared.rows.Receiver.TheVariants as receiver
-use Rattle.sn_model.specs.Receivers.{receiver_of}
+use Rattle.sn_model.specs.declared.rows.HomeMessage.{HomeMessage}
 use Rattle.sn_model.specs.Homes.{Transaction}
 use Rattle.sn_model.specs.CacheRows.{CacheReply}
 use Rattle.sn_model.specs.HomeRows.{LoggedEntry, HomeReply, home_reply, home_row, is_request}
 use Rattle.sn_model.specs.Fabric.{Fabric, FabricStep, step_refused}
-use Rattle.sn_model.specs.NetEvents.{Outcome, Busy, AtCache, AtHome, Noted, unless_busy, fits_in, delivers}
+use Rattle.sn_model.specs.NetEvents.{AtCache, AtHome, unless_busy, outcome_at_home, fits_in, delivers}
 use Rattle.sn_fabric.specs.Deliveries.{look_answer}
+use Rattle.sn_fabric.specs.Plans.{HasRoomFor}
 
 full_step : (s : Fabric) (full : Bool) (done : FabricStep) → done.answer ≡ Delivered →
     (if full then NetFull else Delivered) ≡ (if full then step_refused s NetFull else done).answer
@@ -39,30 +39,7 @@ cache-looks config s m log reply e =
     (length s.net.flights)) e
     ∙ over_step s (nat_lt config.log (length reply.after.log)) (length reply.sends) (length s.net.flights) _ refl
 
--- at a home what a message comes to is a row or that it waits
-abbrev IsAtHome : Outcome → Type 0
-IsAtHome Busy = Unit {0}
-IsAtHome (AtHome reply) = Unit {0}
-IsAtHome (AtCache reply) = ⊥
-IsAtHome (Noted fabric told) = ⊥
-
-unless_busy_there : (o : Option Transaction) (reply : HomeReply) → IsAtHome (unless_busy o reply)
-unless_busy_there None reply = tt
-unless_busy_there (Some transaction) reply = tt
-
-asked_there : (asks : Bool) (o : Option Transaction) (reply : HomeReply) → IsAtHome (if asks then unless_busy o reply else AtHome reply)
-asked_there true o reply = unless_busy_there o reply
-asked_there false o reply = tt
-
-receiver_there : (at : LoggedEntry) (now : ℕ) (m : Message) (x : Receiver) → IsAtHome (outcome_for at now m x)
-receiver_there at now m (receiver.Home message) =
-    asked_there (is_request message) at.entry.transaction (home_reply at m.block now m.tag m.from (home_row at.entry m.from message))
-receiver_there at now m (receiver.Cache taken) = tt
-receiver_there at now m (receiver.Controller k) = tt
-receiver_there at now m (receiver.Clock k) = tt
-
-outcome_there : (at : LoggedEntry) (now : ℕ) (m : Message) (x : Body) → IsAtHome (outcome_at at now m x)
-outcome_there at now m x = receiver_there at now m (receiver_of x)
+-- at a home, where what comes to it is done or waits
 
 judged_over : (s : Fabric) (over : Bool) (limit : ℕ) (flights : ℕ) (reply : HomeReply) (done : FabricStep) →
     nat_lt limit (length reply.after.log) ≡ over → done.answer ≡ Delivered →
@@ -71,24 +48,22 @@ judged_over : (s : Fabric) (over : Bool) (limit : ℕ) (flights : ℕ) (reply : 
 judged_over s true limit flights reply done e d = rw e refl
 judged_over s false limit flights reply done e d = rw e (full_step s (nat_lt 1025 (flights + length reply.sends)) done d)
 
-judged_step : (config : Config) (s : Fabric) (m : Message) (o : Outcome) → IsAtHome o →
-    look_answer (look_of (verdict_on config.log o)) (length s.net.flights) ≡ (delivers config s m o).answer
-judged_step config s m Busy is = refl
-judged_step config s m (AtHome reply) is =
+asked_looks : (config : Config) (s : Fabric) (m : Message) (asks : Bool) (o : Option Transaction) (reply : HomeReply) →
+    look_answer (look_of (verdict_on config.log (if asks then unless_busy o reply else AtHome reply))) (length s.net.flights)
+    ≡ (delivers config s m (if asks then unless_busy o reply else AtHome reply)).answer
+asked_looks config s m true (Some transaction) reply = refl
+asked_looks config s m true None reply =
     judged_over s (nat_lt config.log (length reply.after.log)) config.log (length s.net.flights) reply _ refl refl
-judged_step config s m (AtCache reply) is = absurd is
-judged_step config s m (Noted fabric told) is = absurd is
+asked_looks config s m false o reply =
+    judged_over s (nat_lt config.log (length reply.after.log)) config.log (length s.net.flights) reply _ refl refl
 
-pub home-looks : (config : Config) (s : Fabric) (m : Message) (at : LoggedEntry) (now : ℕ) (x : Body) →
-    look_answer (look_of (verdict_on config.log (outcome_at at now m x))) (length s.net.flights)
-    ≡ (delivers config s m (outcome_at at now m x)).answer
-home-looks config s m at now x = judged_step config s m (outcome_at at now m x) (outcome_there at now m x)
+pub home-looks : (config : Config) (s : Fabric) (m : Message) (at : LoggedEntry) (now : ℕ) (asked : HomeMessage) →
+    look_answer (look_of (verdict_for config.log at now m asked)) (length s.net.flights)
+    ≡ (delivers config s m (outcome_at_home at m now asked)).answer
+home-looks config s m at now asked =
+    asked_looks config s m (is_request asked) at.entry.transaction (home_reply at m.block now m.tag m.from (home_row at.entry m.from asked))
 
 -- what is delivered is done, for the log and the network have the room
-
-pub record HasRoomFor (config : Config) (s : Fabric) (log : List LogEntry) (sends : List Out) : Type 0 where
-  pub entries : nat_lt config.log (length log) ≡ false
-  pub messages : nat_lt 1025 (length s.net.flights + length sends) ≡ false
 
 room_step : (config : Config) (s : Fabric) (log : List LogEntry) (sends : List Out) (done : FabricStep) (over full : Bool) →
     nat_lt config.log (length log) ≡ over → nat_lt 1025 (length s.net.flights + length sends) ≡ full →
@@ -109,20 +84,11 @@ fits-then config s log sends done r =
     else done) r.entries
     ∙ ap (λ (b : Bool). if b then step_refused s NetFull else done) r.messages
 
--- an outcome at a home that is delivered is a row, and nothing is told
+-- what is delivered to a home needn't wait
 
-pub record IsRowOf (config : Config) (s : Fabric) (o : Outcome) : Type 0 where
-  pub reply : HomeReply
-  pub row : o ≡ AtHome reply
-  pub room : HasRoomFor config s reply.after.log reply.sends
-
-row_of_step : (config : Config) (s : Fabric) (m : Message) (o : Outcome) → IsAtHome o → (delivers config s m o).answer ≡ Delivered →
-    IsRowOf config s o
-row_of_step config s m Busy is e = absurd (cc)
-row_of_step config s m (AtHome reply) is e = record { reply = reply; row = refl; room = room-for config s reply.after.log reply.sends _ e }
-row_of_step config s m (AtCache reply) is e = absurd is
-row_of_step config s m (Noted fabric told) is e = absurd is
-
-pub row-of : (config : Config) (s : Fabric) (m : Message) (at : LoggedEntry) (now : ℕ) (x : Body) →
-    (delivers config s m (outcome_at at now m x)).answer ≡ Delivered → IsRowOf config s (outcome_at at now m x)
-row-of config s m at now x e = row_of_step config s m (outcome_at at now m x) (outcome_there at now m x) e
+pub asked-done : (config : Config) (s : Fabric) (m : Message) (asks : Bool) (o : Option Transaction) (reply : HomeReply) →
+    (delivers config s m (if asks then unless_busy o reply else AtHome reply)).answer ≡ Delivered →
+    ((asks && is_some o) ≡ false) × HasRoomFor config s reply.after.log reply.sends
+asked-done config s m true (Some transaction) reply e = absurd (cc)
+asked-done config s m true None reply e = (refl, room-for config s reply.after.log reply.sends _ e)
+asked-done config s m false o reply e = (refl, room-for config s reply.after.log reply.sends _ e)

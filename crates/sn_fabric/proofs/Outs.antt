@@ -4,19 +4,15 @@ use Rattle.std.proofs.Common.{refl, sym, ap, ◌∙◌, subst, arith, append_ass
 use Rattle.std.proofs.lemmas.Bool.{cases_lt}
 use Rattle.std.specs.Prelude.{if◌then◌else◌, nat_eq}
 use Rattle.route_plan.specs.Distances.{Switches}
-use Rattle.sn_msg.specs.declared.Body.{Body}
 use Rattle.sn_msg.specs.declared.Body.TheVariants.{Inv}
 use Rattle.sn_model.specs.declared.cache.Out.{Out}
 use Rattle.sn_model.specs.declared.net.Sent.{Sent}
 use Rattle.sn_model.specs.declared.cache.LineState.TheVariants.{Shared, Modified, Exclusive}
 use Rattle.sn_model.specs.declared.rows.CacheRow.{CacheRow}
 use Rattle.sn_model.specs.declared.rows.CacheRow.TheVariants as row
-use Rattle.sn_model.specs.declared.rows.Receiver.{Receiver}
-use Rattle.sn_model.specs.declared.rows.Receiver.TheVariants as receiver
-use Rattle.sn_model.specs.Receivers.{receiver_of}
 use Rattle.sn_model.specs.Caches.{Miss, with_line}
 use Rattle.sn_model.specs.CacheRows.{Logged, send, reply_or_wait, reply_or_wait_by, reply_when_complete, reply_that_waits, fixed_at}
-use Rattle.sn_model.specs.CacheRows.{miss_with_ack, taken_over, cache_reply, reply_at_cache, row_by}
+use Rattle.sn_model.specs.CacheRows.{miss_with_ack, taken_over, cache_reply}
 use Rattle.sn_model.specs.HomeRows.{invalidations}
 use Rattle.sn_model.specs.Fabric.{Net}
 use Rattle.sn_model.specs.Net.{net_after_send, net_after_sends, sent_by, message_of, is_lost}
@@ -188,7 +184,7 @@ completed_or_waiting_one : (at : Logged) (home : ℕ) (miss : Option Miss) →
 completed_or_waiting_one at home None = refl
 completed_or_waiting_one at home (Some miss) = completed_or_waiting_by_one at home miss miss.fixed
 
-row-sent : (at : Logged) (home block now tag : ℕ) (taken : CacheRow) →
+pub row-sent : (at : Logged) (home block now tag : ℕ) (taken : CacheRow) →
     outs_of (first_of (cache_reply at home block now tag taken).sends) ≡ (cache_reply at home block now tag taken).sends
 row-sent at home block now tag (row.ForwardRead r) = refl
 row-sent at home block now tag (row.ForwardWrite r due) = refl
@@ -203,14 +199,3 @@ row-sent at home block now tag row.PutGo = refl
 row-sent at home block now tag row.PutDone = refl
 row-sent at home block now tag (row.DataExclusive content) =
     completed_or_waiting_one (taken_over at block tag Exclusive content) home (fixed_at at.cache.miss tag 0)
-
-receiver-sent : (at : Logged) (home block now tag : ℕ) (x : Receiver) →
-    outs_of (first_of (reply_at_cache at home block now tag x).sends) ≡ (reply_at_cache at home block now tag x).sends
-receiver-sent at home block now tag (receiver.Cache taken) = row-sent at home block now tag taken
-receiver-sent at home block now tag (receiver.Home message) = refl
-receiver-sent at home block now tag (receiver.Controller k) = refl
-receiver-sent at home block now tag (receiver.Clock k) = refl
-
-pub one-sent : (at : Logged) (home block now tag : ℕ) (x : Body) →
-    outs_of (first_of (row_by at home block now tag x).sends) ≡ (row_by at home block now tag x).sends
-one-sent at home block now tag x = receiver-sent at home block now tag (receiver_of x)

@@ -1,57 +1,61 @@
 -- What the delivery of a report, or of a recovery point, comes to, by what the parts say.
 use Rattle.std.proofs.Common.{◌≡◌, ℕ, ◌<◌, ◌≤◌, max, List, [], length, get_or, set, refl, sym, ap, ◌∙◌, subst, arith, length-set}
 use Rattle.std.specs.Prelude.{Some}
+use Rattle.std.specs.Option.{option_map}
 use Rattle.std.proofs.lemmas.List.{map-set, get_or-set_same}
 use Rattle.sn_base.specs.declared.config.Config.{Config}
 use Rattle.sn_base.specs.declared.event.Answer.TheVariants.{Delivered}
 use Rattle.sn_msg.specs.declared.Message.{Message}
-use Rattle.sn_msg.specs.declared.Body.{Body}
 use Rattle.log_buffer.specs.Log.{LogData, entries_from}
 use Rattle.ckpt_clock.specs.Clock.{ClockData}
-use Rattle.switch_net.specs.Net.{NetData}
+use Rattle.switch_net.specs.declared.flight.Flight.{Flight as Carried}
+use Rattle.switch_net.specs.Net.{NetData, find_flight}
 use Rattle.sn_model.specs.declared.net.Sent.{Sent}
 use Rattle.sn_model.specs.declared.net.News.{News}
 use Rattle.sn_model.specs.declared.net.News.TheVariants as told
-use Rattle.sn_model.specs.declared.rows.Receiver.TheVariants.{Controller, Clock}
-use Rattle.sn_model.specs.Receivers.{receiver_of}
+use Rattle.sn_model.specs.declared.rows.Receiver.TheVariants as receiver
 use Rattle.sn_model.specs.Fabric.{Fabric, Node, Net, FabricStep, first_node, node_at, with_node, with_net}
 use Rattle.sn_model.specs.FabricEvents.{Deliver}
 use Rattle.sn_model.specs.Net.{without_flight}
-use Rattle.sn_model.specs.NetEvents.{node_after_news, outcome_of, delivers, step_of_delivery}
+use Rattle.sn_model.specs.NetEvents.{node_after_news, step_of_delivery}
 use Rattle.sn_coherence.specs.Invariant.{Clocks}
 use Rattle.fabric_bounds.specs.Coherent.{Keeps}
 use Rattle.fabric_bounds.specs.View.{block_seen}
 use Rattle.fabric_bounds.proofs.KeptEvents.{each_keeps}
 use Rattle.sn_fabric.specs.declared.node.NodeUnit.{NodeUnit}
-use Rattle.sn_fabric.specs.Deliveries.{HasCome}
 use Rattle.sn_fabric.specs.Parts.{Parts, fabric_as, node_as, IsUnit, AreParts}
-use Rattle.sn_fabric.proofs.Come.{come-reached, reached-of, deliver_is_moved, is-ready, is-advance}
+use Rattle.sn_fabric.specs.declared.plans.Plan.TheVariants as plan
+use Rattle.sn_fabric.specs.Plans.{IsComeAs, IsTaken, IsPlan}
+use Rattle.sn_fabric.proofs.Come.{deliver_is_moved}
 use Rattle.sn_fabric.proofs.Given.{taken, taken-as, in-flight, inside, node-read, serves}
 use Rattle.sn_fabric.proofs.Parts.{whole-unit, whole-net, Comes, comes-as}
+use Rattle.sn_fabric.proofs.Planned.{taken-step, planned-is}
 
 -- what the layer above hears of, with this fabric, the message gone from its network
 abbrev heard : Fabric → Message → Fabric → News → FabricStep
 heard s m after what = record { fabric = with_net after (without_flight s.net m.id); answer = Delivered; sent = []; told = Some what }
 
-module _ (config : Config) (p : Parts) (a : AreParts config p) (m : Message) (h : HasCome (fabric_as p) m) (k : ℕ) (d : (step_of_delivery config (fabric_as p) m.id).answer ≡ Delivered) where
+module _ (config : Config) (p : Parts) (a : AreParts config p) (id k : ℕ) where
   abbrev s : Fabric
   s = fabric_as p
 
-  by_body : (x : Body) → m.body ≡ x → step_of_delivery config s m.id ≡ delivers config s m (outcome_of s m x)
-  by_body x e = come-reached config s m h (reached-of config s m h d) ∙ ap (λ (y : Body). delivers config s m (outcome_of s m y)) e
-
   -- a report
-  module _ (c : receiver_of m.body ≡ Controller k) where
+  module _ (h : IsPlan config s id (plan.Reports k)) (m : Message)
+      (em : option_map (λ (f : Carried). f.message) (find_flight p.net.flights id) ≡ Some m) where
+    reported : IsComeAs s id m (λ (m : Message). IsTaken s m (receiver.Controller k))
+    reported = planned-is p id (λ (m : Message). IsTaken s m (receiver.Controller k)) h m em
+
     report_done : step_of_delivery config s m.id ≡ heard s m s (told.Ready m.from k)
-    report_done = by_body _ (is-ready m.body k c)
+    report_done = taken-step config s m reported.come (receiver.Controller k) reported.is
 
-    pub report-tells : (what : News) → what ≡ told.Ready m.from k → Some what ≡ (step_of_delivery config s m.id).told
-    report-tells what e = ap Some e ∙ sym (ap (λ (y : FabricStep). y.told) report_done)
+    pub report-tells : (what : News) → what ≡ told.Ready m.from k → Some what ≡ (step_of_delivery config s id).told
+    report-tells what e =
+        ap Some e ∙ sym (ap (λ (y : FabricStep). y.told) report_done) ∙ ap (λ (i : ℕ). (step_of_delivery config s i).told) reported.number
 
-    pub report-taken : (net : NetData) (sends : List Sent) → net ≡ taken p m.id → sends ≡ [] →
-        Comes config p (record p { net = net }) sends Delivered (step_of_delivery config s m.id)
+    pub report-taken : (net : NetData) (sends : List Sent) → net ≡ taken p id → sends ≡ [] →
+        Comes config p (record p { net = net }) sends Delivered (step_of_delivery config s id)
     report-taken net sends en es =
-        rw (en, es)
+        rw (en, es, ← reported.number)
         (comes-as config p (record p { net = taken p m.id }) [] Delivered (Some (told.Ready m.from k)) (Deliver m.id)
         (step_of_delivery config s m.id) a tt tt (deliver_is_moved config s m.id)
         (whole-net config p (taken p m.id) a.whole refl)
@@ -59,15 +63,20 @@ module _ (config : Config) (p : Parts) (a : AreParts config p) (m : Message) (h 
         (sym (taken-as p m.id))))
 
   -- a recovery point
-  module _ (c : receiver_of m.body ≡ Clock k) where
+  module _ (h : IsPlan config s id (plan.Tells k)) (m : Message)
+      (em : option_map (λ (f : Carried). f.message) (find_flight p.net.flights id) ≡ Some m) where
+    known : IsComeAs s id m (λ (m : Message). IsTaken s m (receiver.Clock k))
+    known = planned-is p id (λ (m : Message). IsTaken s m (receiver.Clock k)) h m em
+
     abbrev knowing : Fabric
     knowing = with_node s m.to (node_after_news (node_at s m.to) k)
 
     advance_done : step_of_delivery config s m.id ≡ heard s m knowing (told.Advance m.to k)
-    advance_done = by_body _ (is-advance m.body k c)
+    advance_done = taken-step config s m known.come (receiver.Clock k) known.is
 
-    pub advance-tells : (what : News) → what ≡ told.Advance m.to k → Some what ≡ (step_of_delivery config s m.id).told
-    advance-tells what e = ap Some e ∙ sym (ap (λ (y : FabricStep). y.told) advance_done)
+    pub advance-tells : (what : News) → what ≡ told.Advance m.to k → Some what ≡ (step_of_delivery config s id).told
+    advance-tells what e =
+        ap Some e ∙ sym (ap (λ (y : FabricStep). y.told) advance_done) ∙ ap (λ (i : ℕ). (step_of_delivery config s i).told) known.number
 
     -- after it the node's known point is at most the recovery point, which its interval has reached
     keeps_after : Keeps (heard s m knowing (told.Advance m.to k)).fabric
@@ -76,7 +85,7 @@ module _ (config : Config) (p : Parts) (a : AreParts config p) (m : Message) (h 
         (each_keeps config s (Deliver m.id) (a.keeps.0, a.keeps.1) tt)
 
     there : m.to < length s.nodes
-    there = (in-flight config p a m h).to
+    there = (in-flight config p a m known.come).to
 
     known_after : (get_or (set s.nodes m.to (node_after_news (node_at s m.to) k)) m.to first_node).known ≤ s.point
     known_after =
@@ -91,10 +100,10 @@ module _ (config : Config) (p : Parts) (a : AreParts config p) (m : Message) (h 
 
     module _ (place : ℕ) (x : NodeUnit) (ep : place ≡ m.to) (ex : x ≡ get_or p.units place x) where
       read : node_at s m.to ≡ node_as x
-      read = node-read config p a m h place x ep ex
+      read = node-read config p a m known.come place x ep ex
 
       is : IsUnit config m.to x
-      is = serves config p a m h place x ep ex
+      is = serves config p a m known.come place x ep ex
 
       -- so it has reached what it hears of
       pub advance-reached : k ≤ x.clock.interval
@@ -123,14 +132,14 @@ module _ (config : Config) (p : Parts) (a : AreParts config p) (m : Message) (h 
 
       pub advance-learned : (clock : ClockData) (log : LogData) (net : NetData) (sends : List Sent) →
           clock ≡ record x.clock { known = max x.clock.known k } → log ≡ record x.log { entries = entries_from k x.log.entries } →
-          net ≡ taken p m.id → sends ≡ [] →
+          net ≡ taken p id → sends ≡ [] →
           Comes config p (record p { units = set p.units place (record x { clock = clock; log = log }); net = net }) sends Delivered
-          (step_of_delivery config s m.id)
+          (step_of_delivery config s id)
       advance-learned clock log net sends ec el en es =
-          rw (ec, el, ep, en, es)
+          rw (ec, el, ep, en, es, ← known.number)
           (comes-as config p after [] Delivered (Some (told.Advance m.to k)) (Deliver m.id) (step_of_delivery config s m.id) a tt tt
           (deliver_is_moved config s m.id)
           (whole-net config (record p { units = set p.units m.to left }) (taken p m.id)
-          (whole-unit config p m.to left a.whole (inside config p a m h)
+          (whole-unit config p m.to left a.whole (inside config p a m known.come)
           (record { node = is.node; nodes = is.nodes; sets = is.sets; ways = is.ways; limit = is.limit })) refl)
           (advance_done ∙ ap (λ (z : Fabric). record (heard s m knowing (told.Advance m.to k)) { fabric = z }) fabric_after))

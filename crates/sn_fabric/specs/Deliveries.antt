@@ -20,7 +20,6 @@ use Rattle.sn_model.specs.declared.net.News.TheVariants.{LostCopy}
 use Rattle.sn_model.specs.CacheRows.{CacheReply, send}
 use Rattle.sn_model.specs.Fabric.{Fabric}
 use Rattle.sn_model.specs.Net.{flight_of, is_there}
-use Rattle.mosi_cache.specs.Rows.{cache_by, log_by}
 use Rattle.sn_fabric.specs.declared.node.NodeUnit.{NodeUnit}
 
 -- a message that is in flight and stands in a switch of its receiver
@@ -49,9 +48,10 @@ abbrev pub lost_by : ℕ → CacheStep → Option News
 lost_by n (cache.Took out lost) = option_map (λ (block : ℕ). LostCopy n block) lost
 lost_by n cache.LogFull = None
 
--- a node after this row of its cache, where its log isn't full
+-- a node after this row of its cache
 abbrev pub unit_after : NodeUnit → CacheReply → NodeUnit
-unit_after x reply = record x { cache = cache_by x.cache x.log reply; log = log_by x.log reply }
+unit_after x reply =
+    record x { cache = record x.cache { cache = reply.after.cache }; log = record x.log { entries = reply.after.log } }
 
 -- one message or none
 abbrev pub outs_of : Option Out → List Out

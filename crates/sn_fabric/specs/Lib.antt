@@ -8,5 +8,6 @@ pub mod Logs
 pub mod Recovery
 pub mod Resumed
 pub mod Deliveries
+pub mod Plans
 pub mod Foresight
 pub use Rattle.home_directory.specs.Home

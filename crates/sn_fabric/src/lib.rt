@@ -22,6 +22,7 @@ mod deliveries;
 mod evictions;
 mod foresight;
 mod node;
+mod plans;
 mod points;
 mod recovery;
 mod replies;

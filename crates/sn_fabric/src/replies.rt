@@ -1,6 +1,7 @@
 //! What a delivery does to the network: it takes the message out, and sends what a cache or a home replies.
-ghost use Rattle.std.specs.Prelude.{◌≡◌, ◌+◌, ◌<◌, ◌≤◌, ◌^◌, ◌++◌, [], length, vec_capacity};
-ghost use Rattle.switch_net.specs.Net.{without};
+ghost use Rattle.std.specs.Prelude.{◌≡◌, ◌+◌, ◌<◌, ◌≤◌, ◌^◌, ◌++◌, [], length, vec_capacity, Some, IsSome};
+ghost use Rattle.std.specs.Option.{option_map};
+ghost use Rattle.switch_net.specs.Net.{find_flight, without};
 ghost use Rattle.sn_model.specs.Net.{net_after_sends, sent_by};
 ghost use Rattle.sn_fabric.specs.Deliveries.{out_of, lost_by, outs_of, invalidation, invalidations_of, home_outs, GoTo};
 ghost use Rattle.sn_fabric.specs.Nets.{net_as};
@@ -8,19 +9,21 @@ ghost use Rattle.sn_fabric.specs.Nets.{net_as};
 use crate::sending::post;
 use home_directory::HomeStep;
 use mosi_cache::CacheStep;
-use sn_base::{BlockNo, Interval, NodeId, NodeSet};
+use sn_base::{BlockNo, Interval, MsgId, NodeId, NodeSet};
 use sn_model::{News, Out, Sent};
 use sn_msg::{Body, Message};
 use switch_net::Net;
 
 /// What every delivery begins with: the list is empty, and the message leaves the network.
-pub fn take_out(net: &mut Net, sent: &mut Vec<Sent>, message: &Message)
-    ensures net { net.new ≡ record net.old { flights = without net.old.flights message.now.id } }
+pub fn take_out(net: &mut Net, sent: &mut Vec<Sent>, id: MsgId) -> Message
+    requires { IsSome (find_flight net.old.flights id) }
+    ensures message { option_map (λ f. f.message) (find_flight net.old.flights id) ≡ Some result }
+    ensures net { net.new ≡ record net.old { flights = without net.old.flights id } }
     ensures sent { sent.new.items ≡ [] }
     ensures capacity { vec_capacity sent.old ≤ vec_capacity sent.new }
 {
     sent.clear();
-    net.lose(message.id);
+    net.take_out(id)
 }
 
 /// What a cache sends.

@@ -48,7 +48,7 @@ pub fn post(
         block,
         body: out.body,
     };
-    let arrives = net.send(from, out.to, tag, block, out.body);
+    let arrives = net.post(&message);
     let last = Sent {
         message,
         lost: !arrives,
