@@ -11,8 +11,10 @@ mod closing;
 mod finished;
 mod pump;
 mod run;
+mod sleeping;
 mod slots;
 mod telling;
+mod turnstile;
 
 pub use finished::Finished;
 pub use run::run_nodes;

@@ -5,10 +5,14 @@ ghost use Rattle.sn_console.specs.Ends.{bytes_taken, SameInbox};
 ghost use Rattle.sn_console.specs.Handed.{IsHandedOn, IsBegun};
 
 use crate::bell::Bell;
+use crate::sleeping::sleep;
 use shared_machine::{Locked, RunName};
 use sn_console::{Failed, Inbox};
 use sn_io::Sink;
 use std::sync::{Mutex, Wait};
+
+/// How long it rests after a piece, in nanoseconds, so that what is validated meanwhile makes one piece and wakes nobody.
+const REST: u64 = 1_000_000;
 
 /// Writes what comes until the node workers have ended and nothing is left. Where the console fails, it stops them.
 pub(crate) fn pump<L: RunName, T: Wait, C: Sink>(
@@ -30,7 +34,7 @@ pub(crate) fn pump<L: RunName, T: Wait, C: Sink>(
         match inbox.drain(console) {
             Ok(0) if last => return Ok(()),
             Ok(0) => bell.wait(rt),
-            Ok(_) => {}
+            Ok(_) => sleep(rt, REST),
             Err(failed) => {
                 lock.lock(rt).stop();
                 return Err(failed);

@@ -13,6 +13,7 @@ use crate::finished::Finished;
 use crate::pump::pump;
 use crate::slots::{Slot, gather, make_slots, work};
 use crate::telling::tell;
+use crate::turnstile::Turnstile;
 use shared_machine::{Ended, Locked, RunName, SharedMachine};
 use sn_base::Memory;
 use sn_console::{Failed, Inbox, Outbox, outbox};
@@ -46,6 +47,8 @@ fn turns<L: RunName + Send + Sync, T: Threads + Wait + Sync, C: Sink + Send, G: 
     let bell = Bell::new();
     let bell = &bell;
     let count = slots.len();
+    let turnstile = Turnstile::new(count);
+    let turnstile = &turnstile;
     // The first of the two has the new thread, or where there is none comes last. The console's worker waits for the others, so it
     // is that one: it then finds that they have ended.
     let (drained, _) = join_mut(
@@ -58,7 +61,7 @@ fn turns<L: RunName + Send + Sync, T: Threads + Wait + Sync, C: Sink + Send, G: 
                 rt,
                 slots,
                 count,
-                &|_, slot| work(rt, lock, bell, gate, slot),
+                &|_, slot| work(rt, lock, turnstile, bell, gate, slot),
             );
             bell.end();
         },

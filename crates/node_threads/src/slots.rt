@@ -3,6 +3,7 @@ ghost use Rattle.std.specs.Prelude.{◌≡◌, ◌+◌, ◌<◌, map, vec_len, I
 ghost use Rattle.std.specs.List.{range_with_len};
 
 use crate::bell::Bell;
+use crate::turnstile::Turnstile;
 use shared_machine::{Locked, RunName};
 use sn_base::{Answer, Memory};
 use sn_io::Gate;
@@ -57,6 +58,7 @@ pub(crate) fn gather<L: RunName>(slots: Vec<Slot<L>>, all: &mut Share<L>)
 pub(crate) fn work<L: RunName, T: Wait, G: Gate>(
     rt: &T,
     lock: &Mutex<Locked<L>>,
+    turnstile: &Turnstile,
     bell: &Bell,
     gate: &G,
     slot: &mut Slot<L>,
@@ -64,7 +66,9 @@ pub(crate) fn work<L: RunName, T: Wait, G: Gate>(
     let worker = slot.worker;
     for turn in 1..u64::MAX {
         gate.before(worker, turn);
-        let done = lock.lock(rt).turn(&mut slot.share, worker);
+        let done = turnstile
+            .enter(rt, lock, turn)
+            .turn(&mut slot.share, worker);
         match done {
             Ok((_, Answer::Validated(_))) => bell.ring(),
             Ok(_) => {}
