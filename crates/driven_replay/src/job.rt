@@ -5,7 +5,7 @@ use sn_base::{BlockNo, Config, Event, Image, NodeId};
 use sn_text::Fault;
 
 /// What a drive puts of its events and at its end.
-#[derive(Clone, Copy, PartialEq, Eq, Debug)]
+#[derive(Clone, Copy)]
 pub enum DriveShowing {
     /// What a replay puts that shows this: of each event its group of lines, and at the end the summary.
     Replay(Showing),
@@ -23,7 +23,7 @@ pub struct Drive {
 }
 
 /// What may be asked to be shown: a part of the machine's state, or what is due there.
-#[derive(Clone, Copy, PartialEq, Eq, Debug)]
+#[derive(Clone, Copy)]
 pub enum Look {
     /// The whole of it.
     State,
@@ -40,7 +40,7 @@ pub enum Look {
 }
 
 /// What a line says.
-#[derive(Clone, Copy, PartialEq, Eq, Debug)]
+#[derive(Clone, Copy)]
 pub enum Said {
     /// Nothing: it is empty, or a comment.
     Nothing,

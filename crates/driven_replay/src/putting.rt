@@ -19,7 +19,7 @@ use sn_probe::ProbeSet;
 use sn_text::Line;
 
 /// Why something isn't put whole.
-#[derive(Clone, Copy, PartialEq, Eq, Debug)]
+#[derive(Clone, Copy)]
 pub(crate) enum PutFault {
     /// A sink took less than the whole of a piece.
     Sink,

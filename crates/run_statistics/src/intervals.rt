@@ -9,7 +9,7 @@ use std::alloc::Global;
 use std::marker::Model;
 
 /// A moment of a run: the number of an event, and how many instructions had retired then.
-#[derive(Clone, Copy, PartialEq, Eq, Debug)]
+#[derive(Clone, Copy)]
 pub struct Moment {
     pub event: u64,
     pub retired: u64,

@@ -9,7 +9,7 @@ use std::alloc::Global;
 use std::marker::Model;
 
 /// A byte that was put out: the node, its interval, and the number of the event.
-#[derive(Clone, Copy, PartialEq, Eq, Debug)]
+#[derive(Clone, Copy)]
 pub struct Put {
     pub node: NodeId,
     pub interval: Interval,

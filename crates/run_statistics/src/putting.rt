@@ -23,7 +23,7 @@ use sn_text::Line;
 use std::alloc::Global;
 
 /// Why statistics weren't put.
-#[derive(Clone, Copy, PartialEq, Eq, Debug)]
+#[derive(Clone, Copy)]
 pub enum StatisticsFault {
     /// The report took less than the whole of them.
     Sink,

@@ -12,7 +12,7 @@ use std::marker::Model;
 
 /// What leads to a recovery: a message that was lost, a switch that died or in which a message was lost, or neither since the last
 /// validation or recovery, so that somebody waited too short.
-#[derive(Clone, Copy, PartialEq, Eq, Debug)]
+#[derive(Clone, Copy)]
 pub enum Lead {
     Loss,
     DeadSwitch,
@@ -21,7 +21,7 @@ pub enum Lead {
 
 /// A recovery: the number of its event, the checkpoint that it went back to, and how many instructions, log entries and messages
 /// it took back.
-#[derive(Clone, Copy, PartialEq, Eq, Debug)]
+#[derive(Clone, Copy)]
 pub struct Recovery {
     pub at: u64,
     pub to: Interval,

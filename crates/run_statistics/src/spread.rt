@@ -4,7 +4,7 @@ ghost use Rattle.run_statistics.specs.Spreads.{no_spread, spread_with};
 
 /// How often something was measured, the sum of what was measured, and the greatest of it. Each stops at the greatest number of
 /// 64 bits.
-#[derive(Clone, Copy, PartialEq, Eq, Debug)]
+#[derive(Clone, Copy)]
 pub struct Spread {
     pub count: u64,
     pub sum: u64,

@@ -14,7 +14,7 @@ use sn_base::{Answer, BlockNo, Event, MsgId, NodeId};
 use sn_msg::{Body, Message};
 
 /// Nodes of a machine.
-#[derive(Clone, Copy, PartialEq, Eq, Debug)]
+#[derive(Clone, Copy)]
 pub enum TouchedNodes {
     NoNode,
     OneNode(NodeId),
@@ -22,7 +22,7 @@ pub enum TouchedNodes {
 }
 
 /// Some nodes, maybe the home of one block, and maybe the network and the controller.
-#[derive(Clone, Copy, PartialEq, Eq, Debug)]
+#[derive(Clone, Copy)]
 pub struct SomeParts {
     pub nodes: TouchedNodes,
     pub home: Option<BlockNo>,
@@ -31,7 +31,7 @@ pub struct SomeParts {
 }
 
 /// What an event may touch.
-#[derive(Clone, Copy, PartialEq, Eq, Debug)]
+#[derive(Clone, Copy)]
 pub enum Touched {
     Only(SomeParts),
     All,
