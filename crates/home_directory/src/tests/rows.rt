@@ -4,9 +4,10 @@ ghost use Rattle.std.specs.Prelude.{◌≡◌, []};
 use super::{Answer, Does, Says, answer_of, body_of, content, has_row, node, owner_of, set_of};
 use crate::entry::{DirectoryEntry, Transaction};
 use crate::receive;
+use crate::step::HomeStep;
 use log_buffer::LogBuffer;
 use sn_base::{BlockNo, Entries, Interval, Memory, NodeId, Old};
-use sn_model::Kind;
+use sn_model::{Kind, Look, Receiver, receiver_of};
 use sn_msg::{Body, Message};
 use std::alloc::Global;
 use std::process::Abort;
@@ -240,11 +241,19 @@ fn open_of(rt: &impl Abort, open: Option<(Kind, u8, Interval)>) -> Option<Transa
 fn deliver(entry: &mut DirectoryEntry, message: &Message, log: &mut LogBuffer) -> Option<Answer>
     requires { log.old.entries ≡ [] }
 {
+    let Receiver::Home(asked) = receiver_of(&message.body) else {
+        return None;
+    };
     if !has_row(entry, message) {
         return None;
     }
-    let look = receive::look(entry, message, 5, log);
-    Some((look, receive::receive(entry, message, 5, log)))
+    let (row, look) = receive::look_at(entry, message, &asked, 5, log);
+    let step = match look {
+        Look::HomeBusy => HomeStep::HomeBusy,
+        Look::LogFull => HomeStep::LogFull,
+        Look::Sends(_) => receive::do_row(entry, message, &row, 5, log),
+    };
+    Some((look, step))
 }
 
 /// Whether a log holds just what is to be noted of block 64 on the home's side.
