@@ -58,6 +58,14 @@ const SPENT: Run = Run {
     ..TRAPPED
 };
 
+/// Its workers have had the turns that are handed over one by one long before its end.
+const LONG: Run = Run {
+    program: LOOPS,
+    nodes: 4,
+    budget: 40_000,
+    ..TRAPPED
+};
+
 const CUT_OFF: Run = Run {
     program: ADDS,
     nodes: 2,
@@ -200,6 +208,13 @@ fn a_run_ends_where_its_core_traps(rt: HostRuntime) -> Result<(), Fail> {
 fn a_run_ends_where_its_budget_is_spent(rt: HostRuntime) -> Result<(), Fail> {
     let end = run_freely(&rt, rt.alloc(), &SPENT)?;
     is_so(&rt, end.finish == Finish::Budget && end.events == 50);
+    Ok(())
+}
+
+#[test]
+fn workers_that_sleep_before_the_lock_come_to_the_end(rt: HostRuntime) -> Result<(), Fail> {
+    let end = run_freely(&rt, rt.alloc(), &LONG)?;
+    is_so(&rt, end.finish == Finish::Budget && end.events == 40_000);
     Ok(())
 }
 
