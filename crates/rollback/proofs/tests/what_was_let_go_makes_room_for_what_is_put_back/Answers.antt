@@ -30,6 +30,10 @@ left o p q r b m n = by_test (nat_eq b 1) refl
         rw (first, second, third, e, other) refl
 
 pub unwind-requires-clause-fits : goal.unwind-requires-clause-fits
-unwind-requires-clause-fits g c = (2, 3, λ b m n.
-    rw (c.note-3.ensures, c.note-2.ensures, c.note.ensures, c.in_ok-log.ensures, c.new-w.ensures, c.new-x.ensures, c.new-z.ensures)
-    (left c.zero.result c.zero-2.result c.zero-3.result c.zero-4.result b m n))
+unwind-requires-clause-fits g c = (
+  2,
+  3,
+  λ b m n.
+      rw (c.note-3.ensures, c.note-2.ensures, c.note.ensures, c.in_ok-log.ensures, c.new-w.ensures, c.new-x.ensures, c.new-z.ensures)
+      (left c.zero.result c.zero-2.result c.zero-3.result c.zero-4.result b m n),
+)
