@@ -135,7 +135,7 @@ def is_want(found: Found) -> bool:
 
 def is_whole(program: str, words: List[str], folder: str, found: Found, ample: Found) -> bool:
     """Whether a run was as with all memory, or as it may be then where it has several workers."""
-    if words[:2] != ["run", "--nodes"] or words[2] == "1":
+    if words[:2] != ["run", "--nodes"] or words[2] == "1" or "--order" in words:
         return seen_last(found) == seen_last(ample)
     status, console, report = found
     shown = words[1:5] if words[3] == "--watch" else words[1:3]
