@@ -52,7 +52,9 @@ MEMORY_EACH = 3 << 30
 # The status where the program can't be built, or its two answers differ; the program itself never gives it.
 NOT_BUILT = 125
 # About what a build from nothing takes on four processors, by what its checks cost (docs/MEASURES.md).
-MINUTES_FROM_NOTHING = 45
+MINUTES_FROM_NOTHING = 36
+# How many processors an early answer has for itself while it is awaited: `rt try` uses no more.
+EARLY_PROCESSORS = 2
 
 
 # What tells whether a crate's text was touched: its files and folders with their times.
@@ -452,6 +454,11 @@ def jobs_of(crate: str, urgent: Sequence[str], many: int) -> int:
     return min(4, max(1, many // len(urgent))) if crate in urgent else 1
 
 
+def lanes_beside(first: Optional[FirstAnswer], every: int) -> int:
+    """How many checks at a time, of so many without an early answer: one that is awaited has its processors left."""
+    return max(1, every - EARLY_PROCESSORS) if first and first.is_awaited() else every
+
+
 def minutes_left(under: Under, done: Set[str]) -> int:
     """About how long the rest of a build takes, by what its crates are of the whole work and by the processors."""
     share = sum(work_of(it, under) for it in under if it not in done) / sum(work_of(it, under) for it in under)
@@ -460,13 +467,14 @@ def minutes_left(under: Under, done: Set[str]) -> int:
 
 def build_crates(built: Built, progress: Progress, first: Optional[FirstAnswer]) -> None:
     """Proves and builds the libraries and the program, and shows an early answer as soon as it is there."""
-    under, many = built.under, lanes()
+    under, every = built.under, lanes()
     behind = work_behind(under)
     done: Set[str] = set()
     waiting: Set[str] = set()
     running: Dict[str, Proof] = {}
     try:
         while len(done) < len(under):
+            many = lanes_beside(first, every)
             for crate in sorted(under, key=lambda it: len(under[it])):
                 if crate not in done | waiting | {*running} and under[crate] <= done:
                     if built.has(crate):

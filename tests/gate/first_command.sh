@@ -220,6 +220,8 @@ report of replay x
 # this answer came before the proof; the proof goes on (about N minutes; what is proved is kept if you stop it)
 # proved: the same answer
 END
+lanes=$(cd "$repo" && python3 -c 'import build; print(build.lanes())')
+is_so "which had two processors for itself till then" grep -q "^low build --jobs $((lanes > 6 ? 4 : lanes > 3 ? lanes - 2 : 1)) " "$CALLS"
 early "from then on nothing is said" 7 "sixth:replay x" replay x
 is_so "but the report" diff - "$work/err" <<<"report of replay x"
 change low "seventh"
