@@ -506,7 +506,7 @@ invariant-each l = (l.home.node ≡ l.initial.home.node) × (l.home.nodes ≡ l.
 STRUCTURES = {
     "log": ("log_buffer sn_base byteorder", LOG),
     "home": ("home_directory sn_base sn_msg rv_core rv_decode log_buffer route_plan sn_model byteorder rollback", HOME),
-    "net": ("switch_net sn_msg sn_base route_plan byteorder indexmap", NET),
+    "net": ("switch_net sn_msg sn_base route_plan byteorder", NET),
 }
 
 

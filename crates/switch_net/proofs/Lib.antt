@@ -1,2 +1,2 @@
 pub mod Nets
-pub mod Keyed
+pub mod Ordered

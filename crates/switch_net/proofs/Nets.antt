@@ -4,7 +4,6 @@ use Rattle.std.proofs.Common.{Err, IsOk, List, [], ◌∷◌, ◌++◌, length, 
 use Rattle.std.specs.List.{All, filter, position, position_or_len}
 use Rattle.std.specs.Option.{option_copied, is_some}
 use Rattle.std.proofs.lemmas.Bool.{false≢true, ltb-false}
-use Rattle.std.proofs.lemmas.Bool.Decides.{nat_tests}
 use Rattle.std.proofs.lemmas.List.Quantifiers.{position-Some}
 use Rattle.std.proofs.lemmas.List.Sums.{fails_before_first}
 use Rattle.std.proofs.lemmas.List.Elements.{All-nil, All-cons, All-head, All-tail, All-push, All-filter}
@@ -213,16 +212,17 @@ moved-no id at (f ∷ fs) h =
     moved_no_step (eqb f.message.id id) at f fs (flights_with_move fs id at) (h 0 f (omega arith))
     (moved-no id at fs (λ k d l. h (suc k) d (omega arith)))
 
-pub moved-none : (id at : ℕ) (fs : List Flight) → position (λ f. eqb f.message.id id) fs ≡ None → flights_with_move fs id at ≡ fs
-moved-none id at fs e =
-    moved-no id at fs (λ k d l. fails_before_first (λ f. eqb f.message.id id) fs k d (omega (arith, past fs (λ f. eqb f.message.id id) e)))
+-- a test that no message passes
+pub past-none : (p : Flight → Bool) (fs : List Flight) → position p fs ≡ None → length fs ≤ position_or_len p fs
+past-none p fs e = ltb-false (position_or_len p fs) (length fs) (none _ _ e)
   where
     none : (b : Bool) (i : ℕ) → cond b (Some i) None ≡ None → b ≡ false
     none true i e = cc
     none false i e = refl
 
-    past : (fs : List Flight) (p : Flight → Bool) → position p fs ≡ None → length fs ≤ position_or_len p fs
-    past fs p e = ltb-false (position_or_len p fs) (length fs) (none _ _ e)
+pub moved-none : (id at : ℕ) (fs : List Flight) → position (λ f. eqb f.message.id id) fs ≡ None → flights_with_move fs id at ≡ fs
+moved-none id at fs e =
+    moved-no id at fs (λ k d l. fails_before_first (λ f. eqb f.message.id id) fs k d (omega (arith, past-none (λ f. eqb f.message.id id) fs e)))
 
 pub moved-some : (id at i : ℕ) (fs : List Flight) (d : Flight) → position (λ f. eqb f.message.id id) fs ≡ Some i →
     flights_with_move fs id at ≡ set fs i (record (get_or fs i d) { at = at })
@@ -238,16 +238,6 @@ none-cut (Some x) r k h = absurd (refused r x k h)
     refused : {X : Type 0} (r : Result (Unit {0}) X) (x : X) → IsOk r → r ≡ Err x → ⊥
     refused (Ok u) x k h = cc
     refused (Err y) x k h = cc
-
--- the next number is new
-new_step : (b : Bool) (f : Flight) (o : Option Flight) → b ≡ false → o ≡ None → cond b (Some f) o ≡ None
-new_step b f o h k = rw (h, k) refl
-
-pub find-next : (least bound : ℕ) (fs : List Flight) → AreNumbered least fs bound → find_flight fs bound ≡ None
-find-next least bound [] h = refl
-find-next least bound (f ∷ fs) h =
-    let l : f.message.id + 1 ≤ bound = numbered-le (f.message.id + 1) bound fs h.1 in
-    new_step (eqb f.message.id bound) f (find_flight fs bound) (grind (arith, nat_tests)) (find-next (f.message.id + 1) bound fs h.1)
 
 found_step : (P : Flight → Type 0) (b : Bool) (f : Flight) (o : Option Flight) → P f → IfSome o P → IfSome (cond b (Some f) o) P
 found_step P true f o h k = h

@@ -1,32 +1,15 @@
-use Rattle.std.proofs.Common.{◌∙◌, ◌++◌, List, sym, ap}
-use Rattle.std.specs.Map.{values_of}
+use Rattle.std.proofs.Common.{◌==◌, List, set, sym, ap, ◌∙◌}
+use Rattle.std.specs.List.{position}
 use Rattle.switch_net.specs.declared.flight.Flight.{Flight}
-use Rattle.switch_net.proofs.Keyed.{IsKeyed-insert, find-keyed, moved-keyed, moved-append_found, moved-append_absent, number_of, taken}
+use Rattle.switch_net.proofs.Nets.{moved-none, moved-some}
 use Rattle.switch_net.proofs.messages.Messages.put.Goals as goal
-
-pub invariant_of-self : goal.invariant_of-self
-invariant_of-self c =
-    let t = c.takes-taken.ensures.taken (taken _ _ c.in-Some.flight.now c.takes-taken.ensures.absent (sym c.in-Some.ensures.value)) in
-    rw t (
-      IsKeyed-insert c.args.id _ c.self.inside.numbered.entries
-          (number_of c.args.id c.in-Some.flight.now c.self.inside.numbered.entries c.self.invariant.0
-          (sym c.in-Some.ensures.value)) c.self.invariant.0,
-      c.self.invariant.1,
-    )
 
 pub returns-in-Some : goal.returns-in-Some
 returns-in-Some c =
-    let k = sym c.in-Some.ensures.value in
-    let t = c.takes-taken.ensures.taken (taken _ _ c.in-Some.flight.now c.takes-taken.ensures.absent k) in
-    rw (t, ← c.self.view_is)
-    (ap (λ (fs : List Flight). fs ++ c.self.inside.beside.items)
-    (moved-keyed c.args.id c.args.switch c.in-Some.flight.now c.self.inside.numbered.entries c.self.invariant.0 k)
-    ∙ sym (moved-append_found c.args.id c.args.switch c.in-Some.flight.now
-    (values_of c.self.inside.numbered.entries) c.self.inside.beside.items
-    (find-keyed c.args.id c.self.inside.numbered.entries c.self.invariant.0 ∙ k)))
+    rw (← c.self.view_is)
+    (ap (λ (f : Flight). set c.self.inside.flights.items c.in-Some.place (record f { at = c.args.switch })) c.index_mut.ensures.value
+    ∙ sym (moved-some c.args.id c.args.switch c.in-Some.place c.self.inside.flights.items c.index_mut.result.now
+    (ap (λ (fs : List Flight). position (λ f. f.message.id == c.args.id) fs) c.self.view_is ∙ (sym c.place_of.ensures ∙ c.in-Some.is))))
 
-pub returns-in-None : goal.returns-in-None
-returns-in-None c =
-    rw (c.put_in.ensures.moved, ← c.self.view_is)
-    (sym (moved-append_absent c.args.id c.args.switch (values_of c.self.inside.numbered.entries) c.self.inside.beside.items
-    (find-keyed c.args.id c.self.inside.numbered.entries c.self.invariant.0 ∙ sym c.in-None.ensures.value)))
+pub returns-in_default : goal.returns-in_default
+returns-in_default c = sym (moved-none c.args.id c.args.switch c.args.self.now (sym c.place_of.ensures ∙ c.in_default.is))

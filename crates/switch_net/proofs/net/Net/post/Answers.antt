@@ -1,6 +1,4 @@
-use Rattle.std.proofs.Common.{ℕ, ap, ◌∙◌}
-use Rattle.switch_net.specs.Net.{find_flight}
-use Rattle.switch_net.proofs.Nets.{net-next, net-push, find-next}
+use Rattle.switch_net.proofs.Nets.{net-next, net-push}
 use Rattle.switch_net.proofs.net.Net.post.Goals as goal
 
 pub invariant_of-self : goal.invariant_of-self
@@ -17,8 +15,3 @@ invariant_of-self-2 c =
           }),
       c.self.invariant.1,
     )
-
-pub push-requires-clause-new : goal.push-requires-clause-new
-push-requires-clause-new c =
-    ap (λ (id : ℕ). find_flight c.self.inside.messages id) (rw (← c.self.view_is) at c.requires.number)
-    ∙ find-next 1 c.self.inside.next c.self.inside.messages c.self.invariant.0.numbered
