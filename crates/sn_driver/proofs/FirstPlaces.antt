@@ -1,6 +1,6 @@
 -- The events of a list's first places, with one place more.
 use Rattle.std.proofs.Common.{◌≡◌, ℕ, ◌+◌, ◌<◌, List, [], ◌∷◌, ◌++◌, length, get_or, map, take, filter_map, slice_get, Option, Some}
-use Rattle.std.proofs.Common.{None, IfSome, refl, sym, ap, ◌∙◌, add-one, arith, zero, suc}
+use Rattle.std.proofs.Common.{None, IfSome, sym, ap, ◌∙◌, add-one, arith, zero, suc}
 use Rattle.std.proofs.Math.Seq.{take-suc}
 use Rattle.std.proofs.lemmas.List.{append-nil, append_assoc}
 use Rattle.std.proofs.lemmas.List.Elements.{filter_map-append}

@@ -2,3 +2,6 @@ pub mod Lists
 pub mod Evictions
 pub mod Turns
 pub mod FirstPlaces
+pub mod Arrivals
+pub mod Marks
+pub mod Latest

@@ -1,3 +1,4 @@
 pub mod Driver
 pub mod Turns
 pub mod Found
+pub mod Overview

@@ -6,6 +6,7 @@ ghost use Rattle.due_events.specs.Due.{killing, or_loss, first_picked, event_of_
 ghost use Rattle.due_events.specs.Machine.{IsApplied};
 ghost use Rattle.sn_driver.specs.Turns.{due_at, Took, IsLater};
 
+use crate::overview::Overview;
 use crate::turn::Turn;
 use due_events::sn_machine::Machine;
 use sn_base::{Answer, Event, Interval, NodeId, Rules};
@@ -166,9 +167,10 @@ impl Driver {
         ensures fits { IfSome result (λ event. event_fits machine.now.config.nodes event ≡ true) }
     {
         let nodes = machine.config().nodes;
+        let overview = Overview::of(machine);
         let mut number = worker as u8;
         'turns: for _turn in 0..nodes {
-            let picked = self.picked(machine, NodeId::numbered(number), pick);
+            let picked = self.picked(machine, NodeId::numbered(number), &overview, pick);
             if picked.is_some() {
                 return picked;
             }

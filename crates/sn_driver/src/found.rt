@@ -6,11 +6,11 @@ ghost use Rattle.sn_driver.specs.Found.{HasFound};
 
 use sn_base::Event;
 
-/// How many events a list has, and the first 16 of them: few lists are longer, and those are walked again.
+/// How many events a list has, and the first 4 of them: few lists are longer, and those are walked again.
 #[derive(Clone, Copy)]
 pub struct Found {
     pub count: usize,
-    pub first: [Option<Event>; 16],
+    pub first: [Option<Event>; 4],
 }
 
 impl Found {
@@ -20,7 +20,7 @@ impl Found {
     {
         Found {
             count: 0,
-            first: [None; 16],
+            first: [None; 4],
         }
     }
 
@@ -31,7 +31,7 @@ impl Found {
         ensures found { (nodes : ℕ) (events : List Event) → event_fits nodes event ≡ true → HasFound nodes events self.old →
             HasFound nodes (events ++ event ∷ []) self.new }
     {
-        if self.count < 16 {
+        if self.count < 4 {
             self.first[self.count] = Some(event);
         }
         self.count += 1;

@@ -2,7 +2,7 @@
 ghost use Rattle.std.specs.Prelude.{◌≡◌, ◌<◌, true, length, slice_get, IfSome};
 ghost use Rattle.sn_base.specs.Events.{event_fits};
 ghost use Rattle.sn_base.specs.declared.event.Event.TheVariants.{Step};
-ghost use Rattle.due_events.specs.Lists.{answer_foreseen, delivery, hop, eviction, validation, step, is_behind};
+ghost use Rattle.due_events.specs.Lists.{answer_foreseen, delivery, hop, eviction, validation, step};
 
 use crate::answers::{goes_on, is_delivered, is_validated, needs_evict};
 use due_events::sn_machine::Machine;
@@ -15,7 +15,14 @@ pub fn delivery(machine: &Machine, node: NodeId, place: usize) -> Option<Event>
         delivery machine.now.image machine.now.config machine.now.state node f) }
     ensures fits { IfSome result (λ event. event_fits machine.now.config.nodes event ≡ true) }
 {
-    let (message, _switch) = machine.net().message(place);
+    let net = machine.net();
+    // For the prover alone: no two messages have the same number.
+    let _count = net.count();
+    let (message, switch) = net.message(place);
+    // What stands elsewhere hasn't arrived, and needs no look.
+    if switch.number() / 2 != node.number() {
+        return None;
+    }
     if message.to == node && is_delivered(&machine.foresee(Event::Deliver(message.id))) {
         Some(Event::Deliver(message.id))
     } else {
@@ -80,20 +87,4 @@ pub fn step(machine: &Machine, node: NodeId, answer: &Answer) -> Option<Event>
     } else {
         None
     }
-}
-
-/// Whether another node is ahead of the node.
-pub fn is_behind(machine: &Machine, node: NodeId) -> bool
-    requires { node < machine.now.config.nodes }
-    ensures { result ≡ is_behind machine.now.state.fabric node }
-{
-    // The cut that it shows has as many cores as the machine has nodes.
-    let _view = machine.recovered();
-    let now = machine.now(node);
-    'nodes: for number in 0..machine.config().nodes {
-        if now < machine.now(NodeId::numbered(number)) {
-            return true;
-        }
-    }
-    false
 }

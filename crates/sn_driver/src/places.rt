@@ -7,11 +7,13 @@ ghost use Rattle.sn_base.specs.declared.event.Event.TheVariants.{Step};
 ghost use Rattle.due_events.specs.Lists.{answer_foreseen, delivery, hop, edge, report, own_places, places_of, list_of};
 ghost use Rattle.due_events.specs.Due.{event_picked};
 ghost use Rattle.sn_driver.specs.Found.{HasFound};
+ghost use Rattle.sn_driver.specs.Overview.{IsOverview};
 
 use crate::answers::{is_edged, is_reported};
 use crate::driver::Driver;
 use crate::found::Found;
-use crate::moves::{delivery, eviction, hop, is_behind, step, validation};
+use crate::moves::{delivery, eviction, hop, step, validation};
+use crate::overview::Overview;
 use due_events::sn_machine::Machine;
 use sn_base::{Answer, Event, NodeId};
 
@@ -48,15 +50,36 @@ fn find_hops(machine: &Machine, node: NodeId, found: &mut Found)
     }
 }
 
+/// Finds the deliveries and then the hops of the messages in flight: of those alone that stand at the node.
+fn find_moves(machine: &Machine, node: NodeId, overview: &Overview) -> Found
+    requires here { node < machine.now.config.nodes }
+    requires seen { IsOverview machine.now.state.fabric overview.now }
+    ensures found { HasFound machine.now.config.nodes
+        (filter_map (λ place. place) (map (delivery machine.now.image machine.now.config machine.now.state node) machine.now.state.fabric.net.flights)
+        ++ filter_map (λ place. place) (map (hop node) machine.now.state.fabric.net.flights)) result }
+    ensures few { result.count ≤ 2048 }
+{
+    // For the prover alone: no two messages have the same number.
+    let _count = machine.net().count();
+    let mut found = Found::none();
+    if overview.occupied[usize::from(node.number())] {
+        find_deliveries(machine, node, &mut found);
+        find_hops(machine, node, &mut found);
+    }
+    found
+}
+
 impl Driver {
     /// The node's clock edge, where it has retired enough, can't retire, or is behind.
-    fn edge(&self, machine: &Machine, node: NodeId) -> Option<Event>
-        requires { node < machine.now.config.nodes }
+    fn edge(&self, machine: &Machine, node: NodeId, overview: &Overview) -> Option<Event>
+        requires here { node < machine.now.config.nodes }
+        requires seen { IsOverview machine.now.state.fabric overview.now }
         ensures same { result ≡ edge self.now.rules machine.now.image machine.now.config machine.now.state self.now.numbers node }
         ensures fits { IfSome result (λ event. event_fits machine.now.config.nodes event ≡ true) }
     {
         let has_retired = self.retired[usize::from(node.number())] >= self.rules.interval;
-        if !has_retired && machine.core(node).is_running() && !is_behind(machine, node) {
+        let is_behind = machine.now(node) < overview.latest;
+        if !has_retired && machine.core(node).is_running() && !is_behind {
             return None;
         }
         if is_edged(&machine.foresee(Event::Edge(node))) {
@@ -85,10 +108,12 @@ impl Driver {
         &self,
         machine: &Machine,
         node: NodeId,
+        overview: &Overview,
         answer: &Answer,
         place: usize,
     ) -> Option<Event>
         requires here { node < machine.now.config.nodes }
+        requires seen { IsOverview machine.now.state.fabric overview.now }
         requires foreseen { answer.now ≡ answer_foreseen machine.now.image machine.now.config machine.now.state (Step node) }
         requires there { place < 5 }
         ensures same { result ≡
@@ -98,7 +123,7 @@ impl Driver {
         if place == 0 {
             eviction(machine, node, answer)
         } else if place == 1 {
-            self.edge(machine, node)
+            self.edge(machine, node, overview)
         } else if place == 2 {
             self.report(machine, node)
         } else if place == 3 {
@@ -114,10 +139,12 @@ impl Driver {
         &self,
         machine: &Machine,
         node: NodeId,
+        overview: &Overview,
         answer: &Answer,
         place: usize,
     ) -> Option<Event>
         requires here { node < machine.now.config.nodes }
+        requires seen { IsOverview machine.now.state.fabric overview.now }
         requires there { place < length (places_of self.now.rules machine.now.image machine.now.config machine.now.state self.now.numbers node) }
         requires foreseen { answer.now ≡ answer_foreseen machine.now.image machine.now.config machine.now.state (Step node) }
         ensures same { result ≡
@@ -131,7 +158,7 @@ impl Driver {
         if place - flights < flights {
             return hop(machine, node, place - flights);
         }
-        self.own_event(machine, node, answer, place - flights - flights)
+        self.own_event(machine, node, overview, answer, place - flights - flights)
     }
 
     /// How many places the node's list has.
@@ -145,16 +172,15 @@ impl Driver {
     }
 
     /// How many events the node's list has, and the first of them.
-    fn found(&self, machine: &Machine, node: NodeId) -> Found
-        requires { node < machine.now.config.nodes }
+    fn found(&self, machine: &Machine, node: NodeId, overview: &Overview) -> Found
+        requires here { node < machine.now.config.nodes }
+        requires seen { IsOverview machine.now.state.fabric overview.now }
         ensures found { HasFound machine.now.config.nodes (list_of self.now.rules machine.now.image machine.now.config machine.now.state self.now.numbers node) result }
     {
         let answer = machine.foresee(Event::Step(node));
-        let mut found = Found::none();
-        find_deliveries(machine, node, &mut found);
-        find_hops(machine, node, &mut found);
+        let mut found = find_moves(machine, node, overview);
         'own: for place in 0..5 {
-            if let Some(event) = self.own_event(machine, node, &answer, place) {
+            if let Some(event) = self.own_event(machine, node, overview, &answer, place) {
                 found.add(event);
             }
         }
@@ -163,8 +189,15 @@ impl Driver {
 
     /// The event of the node's list with so many before it.
     #[tactic(auto, using(crate::proofs::Lists::from_place))]
-    fn nth(&self, machine: &Machine, node: NodeId, before: usize) -> Option<Event>
-        requires { node < machine.now.config.nodes }
+    fn nth(
+        &self,
+        machine: &Machine,
+        node: NodeId,
+        overview: &Overview,
+        before: usize,
+    ) -> Option<Event>
+        requires here { node < machine.now.config.nodes }
+        requires seen { IsOverview machine.now.state.fabric overview.now }
         ensures same { result ≡
             slice_get (list_of self.now.rules machine.now.image machine.now.config machine.now.state self.now.numbers node) before }
         ensures fits { IfSome result (λ event. event_fits machine.now.config.nodes event ≡ true) }
@@ -172,7 +205,7 @@ impl Driver {
         let answer = machine.foresee(Event::Step(node));
         let mut left = before;
         'places: for place in 0..self.places(machine, node) {
-            if let Some(event) = self.at_place(machine, node, &answer, place) {
+            if let Some(event) = self.at_place(machine, node, overview, &answer, place) {
                 if left == 0 {
                     return Some(event);
                 }
@@ -184,20 +217,27 @@ impl Driver {
 
     /// The event of the node's list that a pick names. None where the list is empty.
     #[tactic(auto, using(crate::proofs::Lists::nothing_of_none))]
-    pub fn picked(&self, machine: &Machine, node: NodeId, pick: u32) -> Option<Event>
-        requires { node < machine.now.config.nodes }
+    pub fn picked(
+        &self,
+        machine: &Machine,
+        node: NodeId,
+        overview: &Overview,
+        pick: u32,
+    ) -> Option<Event>
+        requires here { node < machine.now.config.nodes }
+        requires seen { IsOverview machine.now.state.fabric overview.now }
         ensures same { result ≡
             event_picked pick (list_of self.now.rules machine.now.image machine.now.config machine.now.state self.now.numbers node) }
         ensures fits { IfSome result (λ event. event_fits machine.now.config.nodes event ≡ true) }
     {
-        let found = self.found(machine, node);
+        let found = self.found(machine, node, overview);
         if found.count == 0 {
             return None;
         }
         let before = pick as usize % found.count;
-        if before < 16 {
+        if before < 4 {
             return found.first[before];
         }
-        self.nth(machine, node, before)
+        self.nth(machine, node, overview, before)
     }
 }

@@ -1,4 +1,4 @@
-use Rattle.std.proofs.Common.{ℕ, ◌+◌, ◌≤◌, List, ◌++◌, map, take, filter_map}
+use Rattle.std.proofs.Common.{◌+◌, ◌≤◌, List, ◌++◌, map, take, filter_map}
 use Rattle.sn_base.specs.declared.event.Event.{Event}
 use Rattle.due_events.specs.Lists.{hop}
 use Rattle.sn_driver.specs.Found.{HasFound}

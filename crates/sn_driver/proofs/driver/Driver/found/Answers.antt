@@ -1,18 +1,9 @@
-use Rattle.std.proofs.Common.{◌≡◌, ◌+◌, ◌<◌, [], ◌++◌, length, map, take, filter_map, sym, ap, ◌∙◌, subst, append-nil, arith}
-use Rattle.due_events.specs.Lists.{delivery, hop, own_places, list_of}
+use Rattle.std.proofs.Common.{◌≡◌, ◌<◌, ◌++◌, length, map, take, filter_map, sym, ap, ◌∙◌, subst, append-nil, arith}
+use Rattle.due_events.specs.Lists.{delivery, hop, own_places}
 use Rattle.sn_driver.specs.Found.{HasFound}
 use Rattle.sn_driver.proofs.FirstPlaces.{more-some, more-none, kept-all}
 use Rattle.sn_driver.proofs.driver.Driver.found.Goals as goal
 use Rattle.sn_driver.proofs.driver.Driver.found.Goals.{in-Some, in_default}
-
-pub find_deliveries-requires-clause-room : goal.find_deliveries-requires-clause-room
-find_deliveries-requires-clause-room c = let e = (c.none-found.ensures c.args.machine.now.config.nodes).count in omega (arith, e)
-
-pub find_hops-requires : goal.find_hops-requires
-find_hops-requires c =
-    let e = (c.none-found.ensures c.args.machine.now.config.nodes).count in
-    let l = c.find_deliveries.ensures.few in
-    record { room = omega (arith, e, l) }
 
 pub own-init : goal.own-init
 own-init c =
@@ -20,14 +11,10 @@ own-init c =
     let n = m.config.nodes in
     let ds = filter_map (λ place. place) (map (delivery m.image m.config m.state c.args.node) m.state.fabric.net.flights) in
     let hs = filter_map (λ place. place) (map (hop c.args.node) m.state.fabric.net.flights) in
-    let none = c.none-found.ensures n in
-    let e = none.count in
-    let l = c.find_deliveries.ensures.few in
-    let k = c.find_hops.ensures.few in
+    let l = c.find_moves-found.ensures.few in
     record {
-      few = omega (arith, e, l, k);
-      found = subst (λ events. HasFound n events c.find_hops.new.found) (sym (append-nil (ds ++ hs)))
-          (c.find_hops.ensures.found ds (c.find_deliveries.ensures.found [] none));
+      few = omega (arith, l);
+      found = subst (λ events. HasFound n events c.find_moves-found.result) (sym (append-nil (ds ++ hs))) c.find_moves-found.ensures.found;
     }
 
 pub own-preserved : goal.own-preserved
